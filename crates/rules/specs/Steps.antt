@@ -1,0 +1,302 @@
+-- One scan of one motor: the paper's "One scan, in this order", a definition a step. Steps 1, 2, 5 to 8 and 10 go by the settings, the
+-- status and the input word alone, and so does what steps 4 and 9 do to the status: the book of commands shares them (it has no sums and
+-- no output, so it hands step 4 its own answer to whether the time is up).
+use Prim.Native.Nat.{ℕ, _+_}
+use mathlib.Core.Bool.{Bool, true, false, not, _&&_, _||_}
+use mathlib.Core.List.{List, [], _∷_}
+use lib.Dec.{eqb, leb, ltb}
+use Rattle.words.specs.Word.{if_then_else_, bitOf, withBit, withoutBit, withoutBits}
+use Rattle.rules.specs.declared.Settings.{Settings}
+use Rattle.rules.specs.declared.Status.{Status}
+use Rattle.rules.specs.declared.Output.{Output}
+use Rattle.rules.specs.declared.Motor.{Motor}
+use Rattle.rules.specs.declared.Reading.{Reading}
+use Rattle.rules.specs.declared.Reading.the-variants.{Off, On, Unsure}
+use Rattle.rules.specs.Record.{OPS₁, OPS₂, localMode, onSwitch, noSupply, forbidOn, forbidOff, reset, repair, reserve, work, unsure, off, on, no-end, end-confirmed, end-displaced, end-overdue, no-output, no-command, commands, SMA-off, LZ-off, LZ-on, KO-off, KO-on, isMU, isKO, isOn, isOff, direction, ownOutput, oppositeOutput, flag, risen, bitRisen, idle, noOutput, withMode, withPositions, withCommand, withFlags, withPrevious, withStatus}
+
+-- Step 1. End becomes 0. Reset clears flags 2 to 13.
+unfoldable pub flags1 : Status → ℕ → ℕ
+flags1 v word = if reset word then withoutBits 2 12 (v .flags) else v .flags
+
+unfoldable pub status1 : Status → ℕ → Status
+status1 v word = withFlags (withCommand v (v .command) no-end) (flags1 v word)
+
+-- Step 2. What the switches read. OPS_1 bit 0 = 0: On switch 1 means On, 0 means Off, always sure. Bit 0 = 1: sure if the two differ.
+unfoldable pub readsSurely : Settings → ℕ → Bool
+readsSurely s word = not (OPS₁ s 0) || not (eqb (bitOf 4 word) (bitOf 5 word))
+
+unfoldable pub readOne : ℕ → Reading
+readOne word = if onSwitch word then On else Off
+
+unfoldable pub reading : Settings → ℕ → Reading
+reading s word = if readsSurely s word then readOne word else Unsure
+
+unfoldable pub isSure : Reading → Bool
+isSure Off = true
+isSure On = true
+isSure Unsure = false
+
+unfoldable pub positionRead : Reading → ℕ
+positionRead Off = off
+positionRead On = on
+positionRead Unsure = unsure
+
+-- A sure change between Off and On from the last sure position, with no command under way, sets flag 2 (to On) or 3 (to Off).
+unfoldable pub flags2 : Settings → Status → ℕ → ℕ
+flags2 s v word =
+    let r = positionRead (reading s word) in
+    if idle v && eqb (v .sure) off && eqb r on then withBit 2 (v .flags)
+    else if idle v && eqb (v .sure) on && eqb r off then withBit 3 (v .flags)
+    else v .flags
+
+-- Unsure: position 0 if OPS_2 bit 2 = 0; else the last sure position if bit 3 = 0; else Off or On as bit 4 is 0 or 1.
+unfoldable pub pretended : Settings → ℕ → ℕ
+pretended s sure = if not (OPS₂ s 2) then unsure else if not (OPS₂ s 3) then sure else if OPS₂ s 4 then on else off
+
+-- A sure reading becomes the position and the last sure position.
+unfoldable pub status2 : Settings → Status → ℕ → Status
+status2 s v word =
+    let r = reading s word in
+    withFlags
+    (withPositions v (if isSure r then positionRead r else v .sure) (if isSure r then positionRead r else pretended s (v .sure)))
+    (flags2 s v word)
+
+-- Step 3. The period is added to the sum of a command under way and of a running pulse.
+-- An output is a running pulse if OPS_1 bit 6 = 1 and U > 0.
+unfoldable pub pulsed : Settings → Bool
+pulsed s = OPS₁ s 6 && ltb 0 (s .u)
+
+unfoldable pub running : Settings → Output → Bool
+running s o = not (eqb (o .state) no-output) && pulsed s
+
+unfoldable pub step3 : Motor → ℕ → Motor
+step3 m period =
+    record {
+      settings = m .settings;
+      status = m .status;
+      sum = if idle (m .status) then m .sum else m .sum + period;
+      output =
+          record {
+            state = m .output .state;
+            sum = if running (m .settings) (m .output) then m .output .sum + period else m .output .sum;
+          };
+    }
+
+-- Step 4. Command under way: a sure reading of its direction ends it, confirmed. Otherwise, if its sum is at least W (`up`), it ends
+-- overdue and its flag, 6 + its number, is set.
+unfoldable pub confirms : Reading → ℕ → Bool
+confirms r c = isSure r && eqb (positionRead r) (direction c)
+
+unfoldable pub confirmed : Settings → Status → ℕ → Bool
+confirmed s v word = not (idle v) && confirms (reading s word) (v .command)
+
+unfoldable pub overdue : Settings → Status → ℕ → Bool → Bool
+overdue s v word up = not (idle v) && not (confirms (reading s word) (v .command)) && up
+
+unfoldable pub status4 : Settings → Status → ℕ → Bool → Status
+status4 s v word up =
+    let done = confirmed s v word in
+    let late = overdue s v word up in
+    withFlags
+    (withCommand v (if done || late then no-command else v .command) (if done then end-confirmed else if late then end-overdue else v .end))
+    (if late then withBit (6 + v .command) (v .flags) else v .flags)
+
+unfoldable pub timeUp : Motor → Bool
+timeUp m = leb (m .settings .w) (m .sum)
+
+-- A pulse drops when its sum is at least U, or a command of its direction is overdue now, or any command is confirmed now with OPS_1 bit
+-- 7 = 1. A held output stays.
+unfoldable pub drops : Motor → ℕ → Bool
+drops m word =
+    running (m .settings) (m .output)
+    && (leb (m .settings .u) (m .output .sum)
+    || overdue (m .settings) (m .status) word (timeUp m) && eqb (m .output .state) (ownOutput (m .status .command))
+    || confirmed (m .settings) (m .status) word && OPS₁ (m .settings) 7)
+
+unfoldable pub step4 : Motor → ℕ → Motor
+step4 m word =
+    let ended = confirmed (m .settings) (m .status) word || overdue (m .settings) (m .status) word (timeUp m) in
+    record {
+      settings = m .settings;
+      status = status4 (m .settings) (m .status) word (timeUp m);
+      sum = if ended then 0 else m .sum;
+      output = if drops m word then noOutput else m .output;
+    }
+
+-- Step 5. Flags 0 and 1 are formed if OPS_2 bit 1 = 1, or bit 1 of the word = 0, or OPS_1 bit 2 = 1; otherwise both are 0.
+unfoldable pub formed : Settings → ℕ → Bool
+formed s word = OPS₂ s 1 || not (localMode word) || OPS₁ s 2
+
+-- Flag 0: no-supply input and OPS_1 bit 1. Flag 1: unsure and no command under way.
+unfoldable pub flag0 : Settings → ℕ → Bool
+flag0 s word = formed s word && noSupply word && OPS₁ s 1
+
+unfoldable pub flag1 : Settings → Status → ℕ → Bool
+flag1 s v word = formed s word && not (isSure (reading s word)) && idle v
+
+-- a flag put to a value
+unfoldable pub putFlag : ℕ → Bool → ℕ → ℕ
+putFlag k b flags = if b then withBit k flags else withoutBit k flags
+
+unfoldable pub status5 : Settings → Status → ℕ → Status
+status5 s v word = withFlags v (putFlag 1 (flag1 s v word) (putFlag 0 (flag0 s word) (v .flags)))
+
+-- Step 6. Mode changes only outside local mode, if exactly one of bits 9 to 11 has risen, no command is under way and no switching
+-- command's bit has risen.
+unfoldable pub modesRisen : Status → ℕ → ℕ
+modesRisen v word = (if risen v word 9 then 1 else 0) + (if risen v word 10 then 1 else 0) + (if risen v word 11 then 1 else 0)
+
+-- the mode that they ask for; 3 is none
+unfoldable pub modeAsked : Status → ℕ → ℕ
+modeAsked v word =
+    if eqb (modesRisen v word) 1 then (if risen v word 9 then repair else if risen v word 10 then reserve else work) else 3
+
+unfoldable pub anyOf : (ℕ → Bool) → List ℕ → Bool
+anyOf test [] = false
+anyOf test (c ∷ cs) = test c || anyOf test cs
+
+-- Repair and Reserve also need position Off. Reserve needs flag 1 = 0 or OPS_1 bit 13, and flag 0 = 0 or bit 14.
+unfoldable pub reserveAllowed : Settings → Status → Bool
+reserveAllowed s v = (not (flag v 1) || OPS₁ s 13) && (not (flag v 0) || OPS₁ s 14)
+
+unfoldable pub modeAllowed : Settings → Status → ℕ → Bool
+modeAllowed s v mode =
+    eqb mode work || eqb mode repair && eqb (v .position) off || eqb mode reserve && eqb (v .position) off && reserveAllowed s v
+
+unfoldable pub modeChanges : Settings → Status → ℕ → Bool
+modeChanges s v word =
+    not (localMode word) && idle v && not (anyOf (bitRisen v word) commands) && modeAllowed s v (modeAsked v word)
+
+unfoldable pub status6 : Settings → Status → ℕ → Status
+status6 s v word = withMode v (if modeChanges s v word then modeAsked v word else v .mode)
+
+-- Step 7. Acknowledging, outside local mode: KO off risen, OPS_1 bit 15 and flag 5 or 6 set: both clear. KO on risen, OPS_2 bit 0 and
+-- flag 4 set: it clears.
+unfoldable pub acknowledgesOff : Settings → Status → ℕ → Bool
+acknowledgesOff s v word = not (localMode word) && bitRisen v word KO-off && OPS₁ s 15 && (flag v 5 || flag v 6)
+
+unfoldable pub acknowledgesOn : Settings → Status → ℕ → Bool
+acknowledgesOn s v word = not (localMode word) && bitRisen v word KO-on && OPS₂ s 0 && flag v 4
+
+unfoldable pub flags7 : Settings → Status → ℕ → ℕ
+flags7 s v word =
+    let f = if acknowledgesOff s v word then withoutBits 5 2 (v .flags) else v .flags in
+    if acknowledgesOn s v word then withoutBit 4 f else f
+
+unfoldable pub status7 : Settings → Status → ℕ → Status
+status7 s v word = withFlags v (flags7 s v word)
+
+-- Step 8, of the status as step 6 left it: step 7 takes from it only flags 4 to 6, which are not asked for here.
+-- Candidates are the risen commands; a rise that acknowledged is no command.
+unfoldable pub ordered : Settings → Status → ℕ → ℕ → Bool
+ordered s v word c =
+    bitRisen v word c && not (eqb c KO-off && acknowledgesOff s v word) && not (eqb c KO-on && acknowledgesOn s v word)
+
+-- KO only outside, MU only in local mode; forbid on bars KO on, and every on command if OPS_1 bit 5; forbid off bars KO off, and every off
+-- command but SMA if bit 4; flag 0 bars every on command.
+unfoldable pub barred : Settings → Status → ℕ → ℕ → Bool
+barred s v word c =
+    isKO c && localMode word || isMU c && not (localMode word) || forbidOn word && (eqb c KO-on || isOn c && OPS₁ s 5)
+    || forbidOff word && (eqb c KO-off || isOff c && not (eqb c SMA-off) && OPS₁ s 4) || flag v 0 && isOn c
+
+-- None in Repair.
+unfoldable pub candidate : Settings → Status → ℕ → ℕ → Bool
+candidate s v word c = ordered s v word c && not (eqb (v .mode) repair) && not (barred s v word c)
+
+-- The candidate with the smallest number is chosen, the rest are lost.
+unfoldable pub firstOf : (ℕ → Bool) → List ℕ → ℕ
+firstOf test [] = no-command
+firstOf test (c ∷ cs) = if test c then c else firstOf test cs
+
+unfoldable pub chosen : Settings → Status → ℕ → ℕ
+chosen s v word = firstOf (candidate s v word) commands
+
+-- With no command under way it is issued unless the position is already its own. With one under way, c, it is issued, and displaces it,
+-- only if its number is smaller and it has the other direction or is SMA.
+unfoldable pub displaces : ℕ → ℕ → Bool
+displaces k c = not (eqb k no-command) && ltb k c && (not (eqb (direction k) (direction c)) || eqb k SMA-off)
+
+unfoldable pub starts : ℕ → ℕ → Bool
+starts k position = not (eqb k no-command) && not (eqb position (direction k))
+
+unfoldable pub issues : Status → ℕ → Bool
+issues v k = if idle v then starts k (v .position) else displaces k (v .command)
+
+-- the command that is issued; 0 is none
+unfoldable pub issued : Settings → Status → ℕ → ℕ
+issued s v word = if issues v (chosen s v word) then chosen s v word else no-command
+
+-- Step 9. Issuing c. An on command clears flags 5 and 6, an off command flag 4. LZ on, LZ off and SMA set flags 4, 5, 6.
+unfoldable pub flags9 : ℕ → ℕ → ℕ
+flags9 c flags =
+    let f = if isOn c then withoutBits 5 2 flags else withoutBit 4 flags in
+    if eqb c LZ-on then withBit 4 f else if eqb c LZ-off then withBit 5 f else if eqb c SMA-off then withBit 6 f else f
+
+-- In Reserve, OPS_1 bits 8 to 11 turn the mode to Work at LZ on, LZ off, KO on, KO off.
+unfoldable pub turnsToWork : Settings → Status → ℕ → Bool
+turnsToWork s v c =
+    eqb (v .mode) reserve
+    && (eqb c LZ-on && OPS₁ s 8 || eqb c LZ-off && OPS₁ s 9 || eqb c KO-on && OPS₁ s 10 || eqb c KO-off && OPS₁ s 11)
+
+-- A command that was under way ends displaced.
+unfoldable pub issueStatus : Settings → Status → ℕ → Status
+issueStatus s v c =
+    withFlags (withMode (withCommand v c (if idle v then v .end else end-displaced)) (if turnsToWork s v c then work else v .mode))
+    (flags9 c (v .flags))
+
+unfoldable pub status9 : Settings → Status → ℕ → Status
+status9 s v c = if eqb c no-command then v else issueStatus s v c
+
+-- The command's own output is raised unless it is SMA with OPS_1 bit 12 = 0, MU with bit 2 = 0, or off with bit 6 = 0.
+unfoldable pub raised : Settings → ℕ → Bool
+raised s c = not (eqb c SMA-off && not (OPS₁ s 12) || isMU c && not (OPS₁ s 2) || isOff c && not (OPS₁ s 6))
+
+-- The opposite output drops. The own one, raised, is a pulse with its sum from 0, or held, with sum 0.
+unfoldable pub output9 : Settings → Output → ℕ → Output
+output9 s o c =
+    if raised s c then record { state = ownOutput c; sum = 0 } else if eqb (o .state) (oppositeOutput c) then noOutput else o
+
+-- Sum 0.
+unfoldable pub issue : Motor → ℕ → Motor
+issue m c =
+    record {
+      settings = m .settings;
+      status = issueStatus (m .settings) (m .status) c;
+      sum = 0;
+      output = output9 (m .settings) (m .output) c;
+    }
+
+unfoldable pub step9 : Motor → ℕ → Motor
+step9 m c = if eqb c no-command then m else issue m c
+
+-- Step 10. The word becomes the previous word.
+unfoldable pub status10 : Status → ℕ → Status
+status10 v word = withPrevious v word
+
+-- The ten steps on the status, as the book of commands takes them too: 1 to 6, where `up` says whether the time of a command under way is
+-- up, and 7 to 10.
+unfoldable pub statusTo6 : Settings → Status → ℕ → Bool → Status
+statusTo6 s v word up = status6 s (status5 s (status4 s (status2 s (status1 v word) word) word up) word) word
+
+unfoldable pub statusFrom6 : Settings → Status → ℕ → Status
+statusFrom6 s v word = status10 (status9 s (status7 s v word) (issued s v word)) word
+
+-- The ten steps on the record: 1 and 2, 3 and 4, 5 and 6, 7 to 10.
+unfoldable pub recordTo2 : Motor → ℕ → Motor
+recordTo2 m word = withStatus m (status2 (m .settings) (status1 (m .status) word) word)
+
+unfoldable pub recordTo4 : Motor → ℕ → ℕ → Motor
+recordTo4 m word period = step4 (step3 (recordTo2 m word) period) word
+
+unfoldable pub recordTo6 : Motor → ℕ → ℕ → Motor
+recordTo6 m word period =
+    let n = recordTo4 m word period in
+    withStatus n (status6 (n .settings) (status5 (n .settings) (n .status) word) word)
+
+unfoldable pub recordFrom6 : Motor → ℕ → Motor
+recordFrom6 m word =
+    let n = step9 (withStatus m (status7 (m .settings) (m .status) word)) (issued (m .settings) (m .status) word) in
+    withStatus n (status10 (n .status) word)
+
+unfoldable pub step : Motor → ℕ → ℕ → Motor
+step m word period = recordFrom6 (recordTo6 m word period) word

@@ -1,0 +1,49 @@
+-- The constant arrays of the commands: each agrees with its rule at every number, by one test that antt computes.
+-- Assumes nothing.
+use mathlib.Core.Path.{_≡_, refl, sym, _∙_}
+use mathlib.Core.Bool.{Bool, true, false, _&&_, false≢true}
+use mathlib.Core.List.{List, [], _∷_}
+use Prim.Native.Nat.{ℕ, zero, suc, _<_, _≤_}
+use native.Mathlib.Omega.{arith}
+use lib.Dec.{eqb, lit<}
+use lib.ListN.{getD}
+use borrow.Author.Tests.{eqb-true, eqb-false, ne-eqb}
+use Rattle.words.specs.Word.{if_then_else_}
+use Rattle.rules.specs.Record.{direction, inputBit}
+
+-- f and g are equal at each number below n
+abbrev agree : (ℕ → ℕ) → (ℕ → ℕ) → ℕ → Bool
+agree f g zero = true
+agree f g (suc n) = eqb (f n) (g n) && agree f g n
+
+agree-at : (f g : ℕ → ℕ) (n : ℕ) → agree f g n ≡ true → (k : ℕ) → k < n → f k ≡ g k
+agree-at f g zero t k h = absurd (omega arith)
+agree-at f g (suc n) t k h = split (eqb (f n) (g n)) refl t (eqb k n) refl (agree-at f g n)
+  where
+    split : (x : Bool) → eqb (f n) (g n) ≡ x → (x && agree f g n) ≡ true → (y : Bool) → eqb k n ≡ y
+        → (agree f g n ≡ true → (k : ℕ) → k < n → f k ≡ g k) → f k ≡ g k
+    split false e t y d below = absurd (false≢true t)
+    split true e t true d below = rw (eqb-true k n d) (eqb-true (f n) (g n) e)
+    split true e t false d below = let q = eqb-false k n d in below t k (omega arith)
+
+-- what is past the table is none of the commands
+past : (c k : ℕ) → 8 ≤ c → k < 8 → eqb c k ≡ false
+past c k h l = ne-eqb c k (λ e. omega arith)
+
+pub direction-at : (c : ℕ) → c < 8 → getD (0 ∷ 1 ∷ 1 ∷ 2 ∷ 1 ∷ 2 ∷ 1 ∷ 2 ∷ []) c 0 ≡ direction c
+unfolding direction if_then_else_
+direction-at = agree-at (λ c. getD (0 ∷ 1 ∷ 1 ∷ 2 ∷ 1 ∷ 2 ∷ 1 ∷ 2 ∷ []) c 0) direction 8 refl
+
+pub direction-past : (c : ℕ) → 8 ≤ c → direction c ≡ 0
+unfolding direction if_then_else_
+direction-past c h =
+    simp (past c 1 h (lit< tt), past c 2 h (lit< tt), past c 3 h (lit< tt), past c 4 h (lit< tt), past c 5 h (lit< tt), past c 6 h (lit< tt), past c 7 h (lit< tt))
+
+pub input-at : (c : ℕ) → c < 8 → getD (32 ∷ 0 ∷ 8 ∷ 7 ∷ 3 ∷ 2 ∷ 13 ∷ 12 ∷ []) c 0 ≡ inputBit c
+unfolding inputBit if_then_else_
+input-at = agree-at (λ c. getD (32 ∷ 0 ∷ 8 ∷ 7 ∷ 3 ∷ 2 ∷ 13 ∷ 12 ∷ []) c 0) inputBit 8 refl
+
+pub input-past : (c : ℕ) → 8 ≤ c → inputBit c ≡ 32
+unfolding inputBit if_then_else_
+input-past c h =
+    simp (past c 1 h (lit< tt), past c 2 h (lit< tt), past c 3 h (lit< tt), past c 4 h (lit< tt), past c 5 h (lit< tt), past c 6 h (lit< tt), past c 7 h (lit< tt))

@@ -1,0 +1,44 @@
+// Step 5: flags 0 (no supply) and 1 (switch fault).
+ghost use mathlib.Core.Path.{_≡_};
+ghost use Rattle.rules.specs.Steps.{formed, flag0, flag1, putFlag, status5};
+use crate::switches::is_sure;
+use crate::switches::read;
+use rules::Settings;
+use rules::Status;
+use words::choose;
+use words::has;
+use words::with_bit;
+use words::without_bit;
+
+pub fn are_formed(s: Settings, word: u32) -> bool
+    ensures { λ r. ⌜ r ≡ formed s word ⌝ }
+{
+    has(s.ops2, 1) | !has(word, 1) | has(s.ops1, 2)
+}
+
+pub fn lacks_supply(s: Settings, word: u32) -> bool
+    ensures { λ r. ⌜ r ≡ flag0 s word ⌝ }
+{
+    are_formed(s, word) & has(word, 6) & has(s.ops1, 1)
+}
+
+pub fn has_switch_fault(s: Settings, v: Status, word: u32) -> bool
+    ensures { λ r. ⌜ r ≡ flag1 s v word ⌝ }
+{
+    are_formed(s, word) & !is_sure(read(s, word)) & (v.command == 0)
+}
+
+pub fn put_flag(flags: u32, k: u32, value: bool) -> u32
+    ensures { λ r. ⌜ r ≡ putFlag k value flags ⌝ }
+{
+    choose(value, with_bit(flags, k), without_bit(flags, k))
+}
+
+pub fn form_flags(s: Settings, v: Status, word: u32) -> Status
+    ensures { λ r. ⌜ r ≡ status5 s v word ⌝ }
+{
+    let f = put_flag(v.flags, 0, lacks_supply(s, word));
+    let mut n = v;
+    n.flags = put_flag(f, 1, has_switch_fault(s, v, word));
+    n
+}

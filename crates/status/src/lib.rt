@@ -1,0 +1,9 @@
+// The steps of a scan that go by a motor's settings, status and input word alone: all but the sums and the output.
+// Straight-line code; every function is defined for any settings, status and word.
+pub mod choice;
+pub mod command;
+pub mod end;
+pub mod faults;
+pub mod issue;
+pub mod mode;
+pub mod switches;
