@@ -1,2 +1,4 @@
 pub mod Record
 pub mod Steps
+pub mod Refusals
+pub mod Range

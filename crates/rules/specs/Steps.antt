@@ -273,30 +273,25 @@ step9 m c = if eqb c no-command then m else issue m c
 unfoldable pub status10 : Status → ℕ → Status
 status10 v word = withPrevious v word
 
--- The ten steps on the status, as the book of commands takes them too: 1 to 6, where `up` says whether the time of a command under way is
--- up, and 7 to 10.
+-- What the ten steps make of the status, as the book of commands takes it too: 1 to 6, where `up` says whether the time of a command
+-- under way is up, and 7 to 10.
 unfoldable pub statusTo6 : Settings → Status → ℕ → Bool → Status
 statusTo6 s v word up = status6 s (status5 s (status4 s (status2 s (status1 v word) word) word up) word) word
 
 unfoldable pub statusFrom6 : Settings → Status → ℕ → Status
 statusFrom6 s v word = status10 (status9 s (status7 s v word) (issued s v word)) word
 
--- The ten steps on the record: 1 and 2, 3 and 4, 5 and 6, 7 to 10.
-unfoldable pub recordTo2 : Motor → ℕ → Motor
-recordTo2 m word = withStatus m (status2 (m .settings) (status1 (m .status) word) word)
-
-unfoldable pub recordTo4 : Motor → ℕ → ℕ → Motor
-recordTo4 m word period = step4 (step3 (recordTo2 m word) period) word
-
-unfoldable pub recordTo6 : Motor → ℕ → ℕ → Motor
-recordTo6 m word period =
-    let n = recordTo4 m word period in
-    withStatus n (status6 (n .settings) (status5 (n .settings) (n .status) word) word)
-
-unfoldable pub recordFrom6 : Motor → ℕ → Motor
-recordFrom6 m word =
-    let n = step9 (withStatus m (status7 (m .settings) (m .status) word)) (issued (m .settings) (m .status) word) in
-    withStatus n (status10 (n .status) word)
+-- The ten steps on the record.
+unfoldable pub stepsTo6 : Motor → ℕ → ℕ → Motor
+stepsTo6 m word period =
+    let s = m .settings in
+    let m₂ = withStatus m (status2 s (status1 (m .status) word) word) in
+    let m₄ = step4 (step3 m₂ period) word in
+    withStatus m₄ (status6 s (status5 s (m₄ .status) word) word)
 
 unfoldable pub step : Motor → ℕ → ℕ → Motor
-step m word period = recordFrom6 (recordTo6 m word period) word
+step m word period =
+    let s = m .settings in
+    let m₆ = stepsTo6 m word period in
+    let m₉ = step9 (withStatus m₆ (status7 s (m₆ .status) word)) (issued s (m₆ .status) word) in
+    withStatus m₉ (status10 (m₉ .status) word)

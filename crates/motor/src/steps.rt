@@ -1,0 +1,116 @@
+// The ten steps on the record.
+ghost use mathlib.Core.Path.{_≡_};
+ghost use Rattle.rules.specs.Range.{SumsFit};
+ghost use Rattle.rules.specs.Record.{withStatus};
+ghost use Rattle.rules.specs.Steps.{step3, step4, issue, step9, stepsTo6, step};
+use crate::output::choose_output;
+use crate::output::is_dropped;
+use crate::output::is_running;
+use crate::output::is_time_up;
+use crate::output::none;
+use crate::output::raise;
+use rules::Motor;
+use rules::Status;
+use status::choice::acknowledge;
+use status::choice::to_issue;
+use status::end::end_command;
+use status::end::is_confirmed;
+use status::end::is_overdue;
+use status::faults::form_flags;
+use status::issue::issue_status;
+use status::issue::keep_word;
+use status::mode::change_mode;
+use status::switches::begin;
+use status::switches::switches;
+use words::choose;
+
+pub fn with_status(m: Motor, v: Status) -> Motor
+    ensures { λ r. ⌜ r ≡ withStatus m v ⌝ }
+{
+    let mut n = m;
+    n.status = v;
+    n
+}
+
+// Step 3.
+pub fn add_period(m: Motor, period: u32) -> Motor
+    requires { ⌜ SumsFit m period ⌝ }
+    ensures { λ r. ⌜ r ≡ step3 m period ⌝ }
+{
+    let s = m.settings;
+    let o = m.output;
+    let mut p = o;
+    p.sum = choose(is_running(s, o), o.sum + period, o.sum);
+    let mut n = m;
+    n.sum = choose(m.status.command == 0, m.sum, m.sum + period);
+    n.output = p;
+    n
+}
+
+// Step 4.
+pub fn settle(m: Motor, word: u32) -> Motor
+    ensures { λ r. ⌜ r ≡ step4 m word ⌝ }
+{
+    let s = m.settings;
+    let v = m.status;
+    let o = m.output;
+    let up = is_time_up(m);
+    let ended = is_confirmed(s, v, word) | is_overdue(s, v, word, up);
+    Motor {
+        settings: s,
+        status: end_command(s, v, word, up),
+        sum: choose(ended, 0, m.sum),
+        output: choose_output(is_dropped(m, word), none(), o),
+    }
+}
+
+// Step 9, for a command c.
+pub fn issue_command(m: Motor, c: u32) -> Motor
+    ensures { λ r. ⌜ r ≡ issue m c ⌝ }
+{
+    let s = m.settings;
+    let v = m.status;
+    let o = m.output;
+    Motor {
+        settings: s,
+        status: issue_status(s, v, c),
+        sum: 0,
+        output: raise(s, o, c),
+    }
+}
+
+// Step 9.
+pub fn issue_any(m: Motor, c: u32) -> Motor
+    ensures { λ r. ⌜ r ≡ step9 m c ⌝ }
+{
+    if c == 0 { m } else { issue_command(m, c) }
+}
+
+// Steps 1 to 6.
+pub fn first_steps(m: Motor, word: u32, period: u32) -> Motor
+    requires { ⌜ SumsFit m period ⌝ }
+    ensures { λ r. ⌜ r ≡ stepsTo6 m word period ⌝ }
+{
+    let s = m.settings;
+    let v = m.status;
+    let begun = with_status(m, switches(s, begin(v, word), word));
+    let settled = settle(add_period(begun, period), word);
+    let w = settled.status;
+    with_status(settled, change_mode(s, form_flags(s, w, word), word))
+}
+
+// All ten.
+pub fn step(m: Motor, word: u32, period: u32) -> Motor
+    requires { ⌜ SumsFit m period ⌝ }
+    ensures { λ r. ⌜ r ≡ step m word period ⌝ }
+{
+    let s = m.settings;
+    let n = first_steps(m, word, period);
+    let v = n.status;
+    let issued = issue_any(
+        with_status(n, acknowledge(s, v, word)),
+        to_issue(s, v, word),
+    );
+    let w = issued.status;
+    with_status(issued, keep_word(w, word))
+}

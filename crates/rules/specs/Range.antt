@@ -1,0 +1,404 @@
+-- The range is kept: a scan of a record in range leaves one in range, so a motor that starts fresh with settings in range is never
+-- refused by 6. Assumes nothing.
+use Prim.Native.Nat.{ℕ, zero, suc, _+_, _^_, _≤_, _<_}
+use mathlib.Core.Path.{_≡_, refl, sym, _∙_}
+use mathlib.Core.Bool.{Bool, true, false, not, _&&_, _||_, false≢true}
+use mathlib.Core.List.{List, [], _∷_}
+use mathlib.Core.Logic.{_≢_}
+use native.Mathlib.Nat.{lt-of-le-of-lt}
+use native.Mathlib.Omega.{arith}
+use lib.Dec.{eqb, leb, ltb, lit<, lit≤}
+use borrow.Author.Tests.{leb-true, leb-false, le-leb, eqb-true, ne-eqb}
+use Rattle.words.specs.Word.{if_then_else_, withBit, withoutBit, withoutBits}
+use Rattle.words.proofs.Laws.{with-lt, without-le}
+use Rattle.rules.specs.declared.Settings.{Settings}
+use Rattle.rules.specs.declared.Status.{Status}
+use Rattle.rules.specs.declared.Output.{Output}
+use Rattle.rules.specs.declared.Motor.{Motor}
+use Rattle.rules.specs.declared.Reading.{Reading}
+use Rattle.rules.specs.declared.Reading.the-variants.{Off, On, Unsure}
+use Rattle.rules.specs.Record.{OPS₁, localMode, commands, bitRisen, idle, freshStatus, noOutput, fresh, withMode, withPositions, withCommand, withFlags, withPrevious, withStatus, ownOutput}
+use Rattle.rules.specs.Steps.{flags1, status1, isSure, positionRead, flags2, pretended, status2, running, step3, confirms, confirmed, overdue, status4, timeUp, drops, step4, flag0, flag1, putFlag, status5, modeAsked, anyOf, reserveAllowed, modeAllowed, modeChanges, status6, flags7, status7, candidate, firstOf, chosen, issues, issued, flags9, turnsToWork, issueStatus, raised, output9, issue, step9, status10, stepsTo6, step, reading}
+use Rattle.rules.specs.Refusals.{settingsInRange, statusInRange, outputInRange, inRange, periodOk, wordOk, oneRefusal, oneAfter, Input, scans}
+
+-- ---- a choice has what both of its arms have
+
+either {ℓ} : {A : Type ℓ} (P : A → Type 0) (b : Bool) {x y : A} → P x → P y → P (if b then x else y)
+unfolding if_then_else_
+either P true p q = p
+either P false p q = q
+
+under : {n : ℕ} (b : Bool) {x y : ℕ} → x < n → y < n → (if b then x else y) < n
+under {n} b = either (λ (k : ℕ). k < n) b
+
+-- ---- the ranges, as bounds
+
+record Fits (v : Status) : Type 0 where
+  mode : v .mode < 3
+  sure : v .sure < 3
+  position : v .position < 3
+  command : v .command < 8
+  end : v .end < 4
+  flags : v .flags < 2 ^ 14
+  previous : v .previous < 131072
+
+-- ---- a field changed within its bound
+
+with-mode : {v : Status} {k : ℕ} → Fits v → k < 3 → Fits (withMode v k)
+unfolding withMode
+with-mode f h = record { mode = h; sure = f .sure; position = f .position; command = f .command; end = f .end; flags = f .flags; previous = f .previous }
+
+with-positions : {v : Status} {a b : ℕ} → Fits v → a < 3 → b < 3 → Fits (withPositions v a b)
+unfolding withPositions
+with-positions f h l = record { mode = f .mode; sure = h; position = l; command = f .command; end = f .end; flags = f .flags; previous = f .previous }
+
+with-command : {v : Status} {c e : ℕ} → Fits v → c < 8 → e < 4 → Fits (withCommand v c e)
+unfolding withCommand
+with-command f h l = record { mode = f .mode; sure = f .sure; position = f .position; command = h; end = l; flags = f .flags; previous = f .previous }
+
+with-flags : {v : Status} {k : ℕ} → Fits v → k < 2 ^ 14 → Fits (withFlags v k)
+unfolding withFlags
+with-flags f h = record { mode = f .mode; sure = f .sure; position = f .position; command = f .command; end = f .end; flags = h; previous = f .previous }
+
+with-previous : {v : Status} {k : ℕ} → Fits v → k < 131072 → Fits (withPrevious v k)
+unfolding withPrevious
+with-previous f h = record { mode = f .mode; sure = f .sure; position = f .position; command = f .command; end = f .end; flags = f .flags; previous = h }
+
+-- ---- the flags
+
+set : (k : ℕ) {f : ℕ} → k < 14 → f < 2 ^ 14 → withBit k f < 2 ^ 14
+set k {f} h = with-lt 14 k f (lit≤ tt) h
+
+clear : (k n : ℕ) {f : ℕ} → f < 2 ^ 14 → withoutBits k n f < 2 ^ 14
+clear k n {f} h = lt-of-le-of-lt (without-le k n f) h
+
+clear-one : (k : ℕ) {f : ℕ} → f < 2 ^ 14 → withoutBit k f < 2 ^ 14
+unfolding withoutBit
+clear-one k h = clear k 1 h
+
+put : (k : ℕ) (b : Bool) {f : ℕ} → k < 14 → f < 2 ^ 14 → putFlag k b f < 2 ^ 14
+unfolding putFlag
+put k b h l = under b (set k h l) (clear-one k l)
+
+-- ---- the steps
+
+keeps1 : (v : Status) (word : ℕ) → Fits v → Fits (status1 v word)
+unfolding status1 flags1
+keeps1 v word f = with-flags (with-command f (f .command) (lit< tt)) (under _ (clear 2 12 (f .flags)) (f .flags))
+
+read-fits : (r : Reading) → positionRead r < 3
+unfolding positionRead
+read-fits Off = lit< tt
+read-fits On = lit< tt
+read-fits Unsure = lit< tt
+
+keeps2 : (s : Settings) (v : Status) (word : ℕ) → Fits v → Fits (status2 s v word)
+unfolding status2 flags2 pretended
+keeps2 s v word f =
+    with-flags
+    (with-positions f (under _ (read-fits _) (f .sure)) (under _ (read-fits _) (under _ (lit< tt) (under _ (f .sure) (under _ (lit< tt) (lit< tt))))))
+    (under _ (set 2 (lit< tt) (f .flags)) (under _ (set 3 (lit< tt) (f .flags)) (f .flags)))
+
+keeps4 : (s : Settings) (v : Status) (word : ℕ) (up : Bool) → Fits v → Fits (status4 s v word up)
+unfolding status4
+keeps4 s v word up f =
+    with-flags (with-command f (under _ (lit< tt) (f .command)) (under _ (lit< tt) (under _ (lit< tt) (f .end))))
+    (under _ (let c = f .command in set (6 + v .command) (omega arith) (f .flags)) (f .flags))
+
+keeps5 : (s : Settings) (v : Status) (word : ℕ) → Fits v → Fits (status5 s v word)
+unfolding status5
+keeps5 s v word f = with-flags f (put 1 _ (lit< tt) (put 0 _ (lit< tt) (f .flags)))
+
+-- a mode that is allowed is one of the three
+allowed : (s : Settings) (v : Status) (k : ℕ) → modeAllowed s v k ≡ true → k < 3
+unfolding modeAllowed
+allowed s v k h = go (eqb (v .position) 1) (reserveAllowed s v) (eqb k 2) refl (eqb k 0) refl (eqb k 1) refl h
+  where
+    go : (p q : Bool) (a : Bool) → eqb k 2 ≡ a → (b : Bool) → eqb k 0 ≡ b → (c : Bool) → eqb k 1 ≡ c → (a || b && p || c && p && q) ≡ true → k < 3
+    go p q true e b d c g h = let x = eqb-true k 2 e in omega arith
+    go p q false e true d c g h = let x = eqb-true k 0 d in omega arith
+    go p q false e false d true g h = let x = eqb-true k 1 g in omega arith
+    go p q false e false d false g h = absurd (false≢true h)
+
+changed : (a b c d : Bool) (k : ℕ) → (d ≡ true → k < 3) → {x : ℕ} → x < 3 → (if a && b && c && d then k else x) < 3
+unfolding if_then_else_
+changed true true true true k h l = h refl
+changed true true true false k h l = l
+changed true true false d k h l = l
+changed true false c d k h l = l
+changed false b c d k h l = l
+
+keeps6 : (s : Settings) (v : Status) (word : ℕ) → Fits v → Fits (status6 s v word)
+unfolding status6 modeChanges
+keeps6 s v word f = with-mode f (changed (not (localMode word)) (idle v) (not (anyOf (bitRisen v word) commands)) (modeAllowed s v (modeAsked v word)) (modeAsked v word) (allowed s v (modeAsked v word)) (f .mode))
+
+keeps7 : (s : Settings) (v : Status) (word : ℕ) → Fits v → Fits (status7 s v word)
+unfolding status7 flags7
+keeps7 s v word f =
+    let g = under _ (clear 5 2 (f .flags)) (f .flags) in
+    with-flags f (under _ (clear-one 4 g) g)
+
+pub issued-fits : (s : Settings) (v : Status) (word : ℕ) → issued s v word < 8
+unfolding issued chosen firstOf commands
+issued-fits s v word =
+    under _
+    (under _ (lit< tt)
+    (under _ (lit< tt) (under _ (lit< tt) (under _ (lit< tt) (under _ (lit< tt) (under _ (lit< tt) (under _ (lit< tt) (lit< tt))))))))
+    (lit< tt)
+
+keeps-issue : (s : Settings) (v : Status) (c : ℕ) → c < 8 → Fits v → Fits (issueStatus s v c)
+unfolding issueStatus flags9
+keeps-issue s v c h f =
+    let g = under _ (clear 5 2 (f .flags)) (clear-one 4 (f .flags)) in
+    with-flags (with-mode (with-command f h (under _ (f .end) (lit< tt))) (under _ (lit< tt) (f .mode)))
+    (under _ (set 4 (lit< tt) g) (under _ (set 5 (lit< tt) g) (under _ (set 6 (lit< tt) g) g)))
+
+keeps10 : (v : Status) (word : ℕ) → word < 131072 → Fits v → Fits (status10 v word)
+unfolding status10
+keeps10 v word h f = with-previous f h
+
+-- ---- the record
+
+record SettingsFit (s : Settings) : Type 0 where
+  ops1 : s .ops1 ≤ 65535
+  ops2 : s .ops2 ≤ 31
+  w : s .w ≤ 600000
+  u : s .u ≤ 600000
+
+record RecordFits (m : Motor) : Type 0 where
+  settings : SettingsFit (m .settings)
+  status : Fits (m .status)
+  sum : m .sum < 600000
+  output : m .output .state < 3
+  pulse : m .output .sum < 600000
+
+with-status : {m : Motor} {v : Status} → RecordFits m → Fits v → RecordFits (withStatus m v)
+unfolding withStatus
+with-status f h = record { settings = f .settings; status = h; sum = f .sum; output = f .output; pulse = f .pulse }
+
+-- steps 3 and 4 together, since a sum is out of range between them: what is still under way is below its limit
+sum-kept : (idle conf : Bool) (sum period w : ℕ) → sum < 600000 → w ≤ 600000
+    → (if not idle && conf || not idle && not conf && leb w (if idle then sum else sum + period) then 0 else if idle then sum else sum + period) < 600000
+unfolding if_then_else_
+sum-kept true conf sum period w h l = h
+sum-kept false true sum period w h l = lit< tt
+sum-kept false false sum period w h l = go (leb w (sum + period)) refl
+  where
+    go : (b : Bool) → leb w (sum + period) ≡ b → (if b then 0 else sum + period) < 600000
+    go true e = lit< tt
+    go false e = let x = leb-false w (sum + period) e in omega arith
+
+record OutputFits (o : Output) : Type 0 where
+  state : o .state < 3
+  sum : o .sum < 600000
+
+pulse-kept : (running late done : Bool) (state sum period u : ℕ) → state < 3 → sum < 600000 → u ≤ 600000
+    → OutputFits
+    (if running && (leb u (if running then sum + period else sum) || late || done) then noOutput
+    else record { state = state; sum = if running then sum + period else sum })
+unfolding if_then_else_ noOutput
+pulse-kept false late done state sum period u g h l = record { state = g; sum = h }
+pulse-kept true late done state sum period u g h l = go (leb u (sum + period)) refl late done
+  where
+    go : (b : Bool) → leb u (sum + period) ≡ b → (late done : Bool)
+        → OutputFits (if b || late || done then noOutput else record { state = state; sum = sum + period })
+    go true e late done = record { state = lit< tt; sum = lit< tt }
+    go false e true done = record { state = lit< tt; sum = lit< tt }
+    go false e false true = record { state = lit< tt; sum = lit< tt }
+    go false e false false = let x = leb-false u (sum + period) e in record { state = g; sum = omega arith }
+
+keeps34 : (m : Motor) (word period : ℕ) → RecordFits m → RecordFits (step4 (step3 m period) word)
+unfolding step4 step3 timeUp confirmed overdue drops running
+keeps34 m word period f =
+    let t = f .settings in
+    let late = overdue (m .settings) (m .status) word (timeUp (step3 m period)) && eqb (m .output .state) (ownOutput (m .status .command)) in
+    let done = confirmed (m .settings) (m .status) word && OPS₁ (m .settings) 7 in
+    let o =
+    pulse-kept (running (m .settings) (m .output)) late done (m .output .state) (m .output .sum) period (m .settings .u) (f .output) (f .pulse)
+    (t .u) in
+    record {
+      settings = f .settings;
+      status = keeps4 (m .settings) (m .status) word _ (f .status);
+      sum = sum-kept (idle (m .status)) _ (m .sum) period (m .settings .w) (f .sum) (t .w);
+      output = o .state;
+      pulse = o .sum;
+    }
+
+output-kept : (s : Settings) (o : Output) (c : ℕ) → OutputFits o → OutputFits (output9 s o c)
+unfolding output9 noOutput ownOutput
+output-kept s o c f =
+    either OutputFits _ (record { state = under _ (lit< tt) (lit< tt); sum = lit< tt }) (either OutputFits _ (record { state = lit< tt; sum = lit< tt }) f)
+
+keeps9 : (m : Motor) (c : ℕ) → c < 8 → RecordFits m → RecordFits (step9 m c)
+unfolding step9 issue
+keeps9 m c h f =
+    let o = output-kept (m .settings) (m .output) c (record { state = f .output; sum = f .pulse }) in
+    either RecordFits _ f
+    (record {
+      settings = f .settings;
+      status = keeps-issue (m .settings) (m .status) c h (f .status);
+      sum = lit< tt;
+      output = o .state;
+      pulse = o .sum;
+    })
+
+keeps : (m : Motor) (word period : ℕ) → word < 131072 → RecordFits m → RecordFits (step m word period)
+unfolding step stepsTo6
+keeps m word period h f =
+    let s = m .settings in
+    let f₄ = keeps34 _ word period (with-status f (keeps2 s _ word (keeps1 (m .status) word (f .status)))) in
+    let f₆ = with-status f₄ (keeps6 s _ word (keeps5 s _ word (f₄ .status))) in
+    let f₉ = keeps9 _ _ (issued-fits s _ word) (with-status f₆ (keeps7 s _ word (f₆ .status))) in
+    with-status f₉ (keeps10 _ word h (f₉ .status))
+
+-- ---- the bounds are the tests of the refusal
+
+both : (a b : Bool) → (a && b) ≡ true → (a ≡ true) × (b ≡ true)
+both true b h = (refl, h)
+both false b h = absurd (false≢true h)
+
+settings-fit : (s : Settings) → settingsInRange s ≡ true → SettingsFit s
+unfolding settingsInRange
+settings-fit s h =
+    let x = both (leb (s .ops1) 65535 && leb (s .ops2) 31 && leb (s .w) 600000) _ h in
+    let y = both (leb (s .ops1) 65535 && leb (s .ops2) 31) _ (x .0) in
+    let z = both (leb (s .ops1) 65535) _ (y .0) in
+    record { ops1 = leb-true _ _ (z .0); ops2 = leb-true _ _ (z .1); w = leb-true _ _ (y .1); u = leb-true _ _ (x .1) }
+
+status-fits : (v : Status) → statusInRange v ≡ true → Fits v
+unfolding statusInRange
+status-fits v h =
+    let m = leb (v .mode) 2 in
+    let s = leb (v .sure) 2 in
+    let p = leb (v .position) 2 in
+    let c = leb (v .command) 7 in
+    let e = leb (v .end) 3 in
+    let f = leb (v .flags) 16383 in
+    let a = both (m && s && p && c && e && f) _ h in
+    let b = both (m && s && p && c && e) _ (a .0) in
+    let d = both (m && s && p && c) _ (b .0) in
+    let g = both (m && s && p) _ (d .0) in
+    let k = both (m && s) _ (g .0) in
+    let l = both m _ (k .0) in
+    let at : (x y : ℕ) → leb x y ≡ true → x < suc y = λ x y t. let z = leb-true x y t in omega arith in
+    record {
+      mode = at _ _ (l .0);
+      sure = at _ _ (l .1);
+      position = at _ _ (k .1);
+      command = at _ _ (g .1);
+      end = at _ _ (d .1);
+      flags = at _ _ (b .1);
+      previous = at _ _ (a .1);
+    }
+
+record-fits : (m : Motor) → inRange m ≡ true → RecordFits m
+unfolding inRange outputInRange
+record-fits m h =
+    let s = settingsInRange (m .settings) in
+    let v = statusInRange (m .status) in
+    let t = leb (m .sum) 599999 in
+    let a = both (s && v && t) _ h in
+    let b = both (s && v) _ (a .0) in
+    let c = both s _ (b .0) in
+    let o = both (leb (m .output .state) 2) _ (a .1) in
+    let sum = leb-true (m .sum) 599999 (b .1) in
+    let state = leb-true (m .output .state) 2 (o .0) in
+    let pulse = leb-true (m .output .sum) 599999 (o .1) in
+    record {
+      settings = settings-fit _ (c .0);
+      status = status-fits _ (c .1);
+      sum = omega arith;
+      output = omega arith;
+      pulse = omega arith;
+    }
+
+in-range : (m : Motor) → RecordFits m → inRange m ≡ true
+unfolding inRange settingsInRange statusInRange outputInRange
+in-range m f =
+    let s = f .settings in
+    let v = f .status in
+    let below : (x y : ℕ) → x < suc y → leb x y ≡ true = λ x y h. le-leb x y (omega arith) in
+    simp (
+      le-leb _ _ (s .ops1),
+      le-leb _ _ (s .ops2),
+      le-leb _ _ (s .w),
+      le-leb _ _ (s .u),
+      below _ 2 (v .mode),
+      below _ 2 (v .sure),
+      below _ 2 (v .position),
+      below _ 7 (v .command),
+      below _ 3 (v .end),
+      below _ 16383 (v .flags),
+      below _ 131071 (v .previous),
+      below _ 599999 (f .sum),
+      below _ 2 (f .output),
+      below _ 599999 (f .pulse),
+    )
+
+-- ---- what a caller of the steps needs
+
+-- a scan is accepted exactly where record, period and word are in limits
+pub record Accepted (m : Motor) (word period : ℕ) : Type 0 where
+  pub range : inRange m ≡ true
+  pub time : periodOk period ≡ true
+  pub input : wordOk word ≡ true
+
+pub accepted : (m : Motor) (word period : ℕ) → oneRefusal m word period ≡ 0 → Accepted m word period
+unfolding oneRefusal if_then_else_
+accepted m word period = go (inRange m) refl (periodOk period) refl (wordOk word) refl
+  where
+    go : (a : Bool) → inRange m ≡ a → (b : Bool) → periodOk period ≡ b → (c : Bool) → wordOk word ≡ c
+        → _≡_ {A = ℕ} (if not a then 6 else if not b then 2 else if not c then 3 else 0) 0 → Accepted m word period
+    go true p true q true r h = record { range = p; time = q; input = r }
+    go true p true q false r h = absurd (omega arith)
+    go true p false q c r h = absurd (omega arith)
+    go false p b q c r h = absurd (omega arith)
+
+-- the sums of an accepted scan fit a word
+pub record SumsFit (m : Motor) (period : ℕ) : Type 0 where
+  pub sum : m .sum < 600000
+  pub pulse : m .output .sum < 600000
+  pub time : period ≤ 10000
+
+pub sums-fit : {m : Motor} {word period : ℕ} → Accepted m word period → SumsFit m period
+unfolding periodOk
+sums-fit {m} {word} {period} a =
+    let f = record-fits m (a .range) in
+    record { sum = f .sum; pulse = f .pulse; time = leb-true period 10000 (both (leb 1 period) _ (a .time) .1) }
+
+-- ---- the range is kept
+
+pub range-kept : (m : Motor) (word period : ℕ) → inRange m ≡ true → wordOk word ≡ true → inRange (step m word period) ≡ true
+unfolding wordOk
+range-kept m word period h l =
+    let w = leb-true word 131071 l in
+    in-range _ (keeps m word period (omega arith) (record-fits m h))
+
+pub scan-in-range : (m : Motor) (word period : ℕ) → inRange m ≡ true → inRange (oneAfter m word period) ≡ true
+unfolding oneAfter if_then_else_
+scan-in-range m word period h = go (eqb (oneRefusal m word period) 0) refl
+  where
+    go : (b : Bool) → eqb (oneRefusal m word period) 0 ≡ b → inRange (if b then step m word period else m) ≡ true
+    go true e = range-kept m word period h (accepted m word period (eqb-true _ _ e) .input)
+    go false e = h
+
+pub fresh-in-range : (s : Settings) → settingsInRange s ≡ true → inRange (fresh s) ≡ true
+unfolding inRange fresh freshStatus noOutput statusInRange outputInRange
+fresh-in-range s h = simp h
+
+pub scans-in-range : (m : Motor) (is : List Input) → inRange m ≡ true → inRange (scans m is) ≡ true
+unfolding scans
+scans-in-range m [] h = h
+scans-in-range m (i ∷ is) h = scans-in-range _ is (scan-in-range m (i .word) (i .period) h)
+
+-- A motor that starts fresh with settings in range is never refused by 6.
+pub never-out-of-range : (s : Settings) → settingsInRange s ≡ true → (is : List Input) (word period : ℕ)
+    → oneRefusal (scans (fresh s) is) word period ≢ 6
+unfolding oneRefusal if_then_else_
+never-out-of-range s h is word period =
+    simp (scans-in-range (fresh s) is (fresh-in-range s h)) (go (periodOk period) (wordOk word))
+  where
+    go : (b c : Bool) → _≢_ {A = ℕ} (if not b then 2 else if not c then 3 else 0) 6
+    go true true e = omega arith
+    go true false e = omega arith
+    go false c e = omega arith
