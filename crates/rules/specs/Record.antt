@@ -25,9 +25,6 @@ localMode word = isSet 1 word
 unfoldable pub onSwitch : ℕ → Bool
 onSwitch word = isSet 4 word
 
-unfoldable pub offSwitch : ℕ → Bool
-offSwitch word = isSet 5 word
-
 unfoldable pub noSupply : ℕ → Bool
 noSupply word = isSet 6 word
 

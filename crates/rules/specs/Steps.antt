@@ -108,10 +108,11 @@ timeUp m = leb (m .settings .w) (m .sum)
 -- 7 = 1. A held output stays.
 unfoldable pub drops : Motor → ℕ → Bool
 drops m word =
-    running (m .settings) (m .output)
-    && (leb (m .settings .u) (m .output .sum)
-    || overdue (m .settings) (m .status) word (timeUp m) && eqb (m .output .state) (ownOutput (m .status .command))
-    || confirmed (m .settings) (m .status) word && OPS₁ (m .settings) 7)
+    let s = m .settings in
+    let v = m .status in
+    let o = m .output in
+    running s o
+    && (leb (s .u) (o .sum) || overdue s v word (timeUp m) && eqb (o .state) (ownOutput (v .command)) || confirmed s v word && OPS₁ s 7)
 
 unfoldable pub step4 : Motor → ℕ → Motor
 step4 m word =
