@@ -1,6 +1,6 @@
 // The ten steps on the record.
 ghost use mathlib.Core.Path.{_≡_};
-ghost use Rattle.rules.specs.Range.{SumsFit};
+ghost use Rattle.rules.specs.Refusals.{SumsFit};
 ghost use Rattle.rules.specs.Record.{withStatus};
 ghost use Rattle.rules.specs.Steps.{step3, step4, issue, step9, stepsTo6, step};
 use crate::output::choose_output;

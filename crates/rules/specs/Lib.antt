@@ -1,6 +1,5 @@
 pub mod Record
 pub mod Steps
 pub mod Refusals
-pub mod Range
 pub mod Opened
 pub mod Sheets

@@ -3,14 +3,14 @@
 use mathlib.Core.Path.{_≡_, refl, sym, ap, ap₂, _∙_, subst}
 use mathlib.Core.Bool.{Bool, true, false, not, _&&_}
 use Prim.Native.Nat.{ℕ, zero, suc, _+_, _-_, _*_, _/_, _%_, _^_, _<_, _≤_, min}
-use native.Mathlib.Nat.{sub-le, lt-of-le-of-lt, lt-of-lt-of-le, pow-suc, mod-lt, div-eq-of-lt, one-mul, zero-mul, add-zero, add-suc, div-one, zero-min}
+use native.Mathlib.Nat.{sub-le, lt-of-le-of-lt, lt-of-lt-of-le, pow-suc, mod-lt, div-eq-of-lt, one-mul, zero-mul, add-zero, add-suc, div-one, zero-min, add-mul-div-right, div-add-mod', div-mul-le-self, mul-le-mul-right, mul-div-cancel, mod-le}
 use native.Mathlib.Numerals.{one-add}
 use native.Mathlib.Omega.{arith}
 use lib.Dec.{lit<, eqb, ltb}
 use lib.Arith.{lt-one}
-use lib.Pow.{pow-lt, pow-mono, shl-lt, shl-exact, shr-lt, shr-shr, ones-lt, high-ones}
+use lib.Pow.{pow-pos, pow-lt, pow-mono, shl-lt, shl-exact, shr-lt, shr-shr, ones-lt, high-ones}
 use lib.Bits.{bitAnd, bitOr, or-lt, and-le-l, and-high, and-step, and-shr, and-mod, or-add-and}
-use borrow.Author.Tests.{lt-ltb, ltb-true, ltb-false}
+use borrow.Author.Tests.{lt-ltb, ltb-true, ltb-false, eq-eqb}
 use Rattle.words.specs.Word.{if_then_else_, bitOf, isSet, rose, without, withoutBits, withoutBit, withBit}
 
 -- a bit is 0 or 1
@@ -131,6 +131,49 @@ risen-is k w p hw hp = ap (λ (n : ℕ). eqb n 1) (and-bits k w (2 ^ 32 - 1 - p)
         → eqb (min (bitOf k w) (bitOf k (2 ^ 32 - 1 - p))) 1 ≡ (eqb (bitOf k w) 1 && not (eqb (bitOf k p) 1))
     go true e = rw (not-bit k p (ltb-true k 32 e) hp) (table (bitOf k w) (bitOf k p) (bit-lt k w) (bit-lt k p))
     go false e = rw (bit-past k w (ltb-false k 32 e) hw, zero-min) refl
+
+-- ---- what setting and clearing leaves alone
+
+-- a bit from j on goes by the quotient
+from-quotient : (j k w x : ℕ) → j ≤ k → x / 2 ^ j ≡ w / 2 ^ j → isSet k x ≡ isSet k w
+unfolding isSet bitOf
+from-quotient j k w x h e =
+    let s : (n : ℕ) → n / 2 ^ k ≡ n / 2 ^ j / 2 ^ (k - j) = λ n. ap (λ (i : ℕ). n / 2 ^ i) (omega arith) ∙ sym (shr-shr n j (k - j)) in
+    rw (s x, s w, e)
+
+set-shr : (k w : ℕ) → (w + (1 - bitOf k w) * 2 ^ k) / 2 ^ k ≡ w / 2 ^ k + (1 - bitOf k w)
+set-shr k w = add-mul-div-right w (1 - bitOf k w) (pow-pos k)
+
+pub set-has : (k w : ℕ) → k < 32 → isSet k (withBit k w) ≡ true
+unfolding isSet bitOf withBit if_then_else_
+set-has k w h = rw (lt-ltb k 32 h) (eq-eqb ((w + (1 - w / 2 ^ k % 2) * 2 ^ k) / 2 ^ k % 2) 1 (rw (set-shr k w) (omega arith)))
+
+pub set-keeps : (j k w : ℕ) → j < k → isSet k (withBit j w) ≡ isSet k w
+unfolding withBit bitOf if_then_else_
+set-keeps j k w h = go (ltb j 32)
+  where
+    odd : (w / 2 ^ j + (1 - w / 2 ^ j % 2)) / 2 ≡ w / 2 ^ j / 2
+    odd = omega arith
+
+    half : (w + (1 - bitOf j w) * 2 ^ j) / 2 ^ (j + 1) ≡ w / 2 ^ (j + 1)
+    half = sym (shr-shr (w + (1 - bitOf j w) * 2 ^ j) j 1) ∙ ap (λ (n : ℕ). n / 2) (set-shr j w) ∙ odd ∙ shr-shr w j 1
+
+    go : (b : Bool) → isSet k (if b then w + (1 - bitOf j w) * 2 ^ j else w) ≡ isSet k w
+    go true = from-quotient (j + 1) k w _ (omega arith) half
+    go false = refl
+
+pub clear-keeps : (j n k w : ℕ) → j + n ≤ k → isSet k (withoutBits j n w) ≡ isSet k w
+unfolding withoutBits
+clear-keeps j n k w h =
+    let q : ℕ = w / 2 ^ j in
+    let r : ℕ = q % 2 ^ n in
+    let whole : q / 2 ^ n * 2 ^ n + r ≡ q = div-add-mod' q (2 ^ n) in
+    let fits : r * 2 ^ j ≤ w = omega (arith, mul-le-mul-right (2 ^ j) (mod-le q (2 ^ n)), div-mul-le-self w (2 ^ j)) in
+    let sum : w - r * 2 ^ j + r * 2 ^ j ≡ w = omega arith in
+    let low : (w - r * 2 ^ j) / 2 ^ j + r ≡ q = sym (add-mul-div-right (w - r * 2 ^ j) r (pow-pos j)) ∙ ap (λ (x : ℕ). x / 2 ^ j) sum in
+    let high : (w - r * 2 ^ j) / 2 ^ j ≡ q / 2 ^ n * 2 ^ n = omega arith in
+    from-quotient (j + n) k w _ h
+    (sym (shr-shr (w - r * 2 ^ j) j n) ∙ ap (λ (x : ℕ). x / 2 ^ n) high ∙ mul-div-cancel (q / 2 ^ n) (pow-pos n) ∙ shr-shr w j n)
 
 -- bounds
 pub if-lt : {n : ℕ} (b : Bool) {x y : ℕ} → x < n → y < n → (if b then x else y) < n

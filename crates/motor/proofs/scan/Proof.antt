@@ -2,7 +2,7 @@ use Rattle.rules.specs.Refusals.{oneAfter}
 use Rattle.words.specs.Word.{if_then_else_}
 use mathlib.Core.Path.{_≡_, sym, _∙_}
 use borrow.Author.Tests.{eq-eqb, ne-eqb}
-use Rattle.rules.specs.Range.{accepted, sums-fit}
+use Rattle.rules.proofs.Range.{accepted, sums-fit}
 use borrow.Author.Needs.{needs}
 use Rattle.motor.proofs.scan.Statement.{statement}
 use Rattle.motor.proofs.scan.Tie as tie

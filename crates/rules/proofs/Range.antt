@@ -19,7 +19,7 @@ use Rattle.rules.specs.declared.Reading.{Reading}
 use Rattle.rules.specs.declared.Reading.the-variants.{Off, On, Unsure}
 use Rattle.rules.specs.Record.{OPS₁, localMode, commands, bitRisen, idle, freshStatus, noOutput, fresh, withMode, withPositions, withCommand, withFlags, withPrevious, withStatus, ownOutput}
 use Rattle.rules.specs.Steps.{flags1, status1, isSure, positionRead, flags2, pretended, status2, running, step3, confirms, confirmed, overdue, status4, timeUp, drops, step4, flag0, flag1, putFlag, status5, modeAsked, anyOf, reserveAllowed, modeAllowed, modeChanges, status6, flags7, status7, candidate, firstOf, chosen, issues, issued, flags9, turnsToWork, issueStatus, raised, output9, issue, step9, status10, stepsTo6, step, reading}
-use Rattle.rules.specs.Refusals.{settingsInRange, statusInRange, outputInRange, inRange, periodOk, wordOk, oneRefusal, oneAfter, Input, scans}
+use Rattle.rules.specs.Refusals.{settingsInRange, statusInRange, outputInRange, inRange, periodOk, wordOk, SumsFit, oneRefusal, oneAfter, Input, scans}
 
 -- ---- a choice has what both of its arms have
 
@@ -355,11 +355,6 @@ accepted m word period = go (inRange m) refl (periodOk period) refl (wordOk word
     go false p b q c r h = absurd (omega arith)
 
 -- the sums of an accepted scan fit a word
-pub record SumsFit (m : Motor) (period : ℕ) : Type 0 where
-  pub sum : m .sum < 600000
-  pub pulse : m .output .sum < 600000
-  pub time : period ≤ 10000
-
 pub sums-fit : {m : Motor} {word period : ℕ} → Accepted m word period → SumsFit m period
 unfolding periodOk
 sums-fit {m} {word} {period} a =

@@ -1,0 +1,301 @@
+-- What one scan does to the command under way, and so how it ends. Assumes nothing.
+use Prim.Native.Nat.{ℕ, zero, suc, _+_, _≤_, _<_}
+use mathlib.Core.Path.{_≡_, refl, sym, ap, _∙_}
+use mathlib.Core.Logic.{_↔_, _≢_}
+use mathlib.Core.Bool.{Bool, true, false, not, _&&_, _||_, false≢true}
+use native.Mathlib.Omega.{arith}
+use native.Mathlib.Decide.{ℕ-discrete}
+use lib.Dec.{eqb, leb, ltb, lit<, lit≤}
+use borrow.Author.Tests.{eqb-true, eqb-false, ne-eqb, ltb-true}
+use Rattle.words.specs.Word.{if_then_else_, isSet, withBit, withoutBit, withoutBits}
+use Rattle.words.proofs.Laws.{if-lt, set-has, set-keeps, clear-keeps}
+use Rattle.rules.specs.declared.Settings.{Settings}
+use Rattle.rules.specs.declared.Status.{Status}
+use Rattle.rules.specs.Record.{no-command, no-end, end-confirmed, end-displaced, end-overdue, idle, freshStatus, withMode, withPositions, withCommand, withFlags, withPrevious}
+use Rattle.rules.specs.Steps.{reading, confirms, confirmed, overdue, status1, status2, status4, putFlag, status5, status6, flags7, status7, chosen, displaces, starts, issues, issued, flags9, issueStatus, status9, status10, statusTo6, statusFrom6}
+use Rattle.rules.specs.Refusals.{Input}
+use Rattle.rules.proofs.Range.{issued-fits}
+use Rattle.book.specs.Log.{Log, none, _▸_, _⧺_, count}
+use Rattle.book.specs.Book.{since, isUp, bookTo6, bookScan, bookOf}
+use Rattle.book.specs.Claim.{UnderWay, Issued, chosenIn, fate, Quiet, Ends}
+use Rattle.book.proofs.Book.{book-held, endsIn, endIn, command-after, end-after}
+
+-- ---- one turn, by its numbers
+
+-- From a command c issued in scan i to the command c′ issued in scan i′: its fate is f, e′ the book's end, k the chosen command, n this
+-- scan's number.
+pub record Turn (c k i n f c′ e′ i′ : ℕ) : Type 0 where
+  pub end : e′ ≡ f
+  pub stay : f ≡ no-end → (c′ ≡ c) × (i′ ≡ i)
+  pub gone : f ≢ no-end → c′ ≢ no-command → i′ ≡ n
+  pub next : f ≡ end-displaced → (c′ ≡ k) × (i′ ≡ n) × (k ≢ no-command) × (k < c)
+
+displaces-ne : (k c : ℕ) → displaces k c ≡ true → k ≢ 0
+unfolding displaces
+displaces-ne k c h e = false≢true (rw e at h)
+
+displaces-lt : (k c : ℕ) → displaces k c ≡ true → k < c
+unfolding displaces
+displaces-lt k c h = ltb-true k c (middle (not (eqb k 0)) (ltb k c) _ h)
+  where
+    middle : (a b d : Bool) → (a && b && d) ≡ true → b ≡ true
+    middle true true d h = refl
+    middle true false d h = h
+    middle false b d h = absurd (false≢true h)
+
+-- a command that is confirmed or overdue makes room for another
+over : (c k q i n f : ℕ) (z : Bool) → f ≢ 0 → f ≢ 2 → Turn c k i n f (if z then 0 else q) (if z then f else f) (if z then i else n)
+unfolding if_then_else_
+over c k q i n f true f0 f2 = record { end = refl; stay = λ p. absurd (f0 p); gone = λ p x. absurd (x refl); next = λ p. absurd (f2 p) }
+over c k q i n f false f0 f2 = record { end = refl; stay = λ p. absurd (f0 p); gone = λ p x. refl; next = λ p. absurd (f2 p) }
+
+-- one that is neither is displaced, or stays
+free : (c k q i n : ℕ) (d : Bool) → displaces k c ≡ d → q ≡ (if d then k else 0) → eqb c 0 ≡ false
+    → Turn c k i n (if d then 2 else 0) (if eqb q 0 then c else q) (if eqb q 0 then 0 else if eqb c 0 then 0 else 2) (if eqb q 0 then i else n)
+unfolding if_then_else_
+free c k q i n true hd hq live =
+    rw (hq, ne-eqb k 0 (displaces-ne k c hd), live)
+    (record { end = refl; stay = λ p. absurd (omega arith); gone = λ p x. refl; next = λ p. (refl, refl, displaces-ne k c hd, displaces-lt k c hd) })
+free c k q i n false hd hq live =
+    rw hq (record { end = refl; stay = λ p. (refl, refl); gone = λ p x. absurd (p refl); next = λ p. absurd (omega arith) })
+
+-- x: confirmed; up: the time is up; o: with no command under way, k is issued
+turn : (c k q i n : ℕ) (x up o : Bool) → eqb c 0 ≡ false
+    → q
+    ≡ (if (if eqb (if x || not x && up then 0 else c) 0 then o else displaces k (if x || not x && up then 0 else c)) then k else 0)
+    → Turn c k i n (if x then 1 else if up then 3 else if displaces k c then 2 else 0)
+    (if eqb q 0 then (if x || not x && up then 0 else c) else q)
+    (if eqb q 0 then (if x then 1 else if not x && up then 3 else 0)
+    else if eqb (if x || not x && up then 0 else c) 0 then (if x then 1 else if not x && up then 3 else 0) else 2)
+    (if eqb q 0 then i else n)
+unfolding if_then_else_
+turn c k q i n true up o live hq = over c k q i n 1 (eqb q 0) (omega arith) (omega arith)
+turn c k q i n false true o live hq = over c k q i n 3 (eqb q 0) (omega arith) (omega arith)
+turn c k q i n false false o live hq = free c k q i n (displaces k c) refl (rw live at hq) live
+
+-- ---- the flag of an overdue command
+
+if-keeps : (k : ℕ) (b : Bool) (x y : ℕ) {t : Bool} → isSet k x ≡ t → isSet k y ≡ t → isSet k (if b then x else y) ≡ t
+unfolding if_then_else_
+if-keeps k true x y p q = p
+if-keeps k false x y p q = q
+
+clear-one-keeps : (j k w : ℕ) → j < k → isSet k (withoutBit j w) ≡ isSet k w
+unfolding withoutBit
+clear-one-keeps j k w h = clear-keeps j 1 k w (omega arith)
+
+put-keeps : (j k : ℕ) (b : Bool) (w : ℕ) → j < k → isSet k (putFlag j b w) ≡ isSet k w
+unfolding putFlag
+put-keeps j k b w h = if-keeps k b _ _ (set-keeps j k w h) (clear-one-keeps j k w h)
+
+-- flags above 6 stay as step 4 left them
+keeps7 : (s : Settings) (v : Status) (word k : ℕ) → 6 < k → isSet k (flags7 s v word) ≡ isSet k (v .flags)
+unfolding flags7
+keeps7 s v word k l =
+    let off = if-keeps k _ _ _ (clear-keeps 5 2 k (v .flags) l) refl in
+    if-keeps k _ _ _ (clear-one-keeps 4 k _ (omega arith) ∙ off) off
+
+keeps9 : (c k f : ℕ) → 6 < k → isSet k (flags9 c f) ≡ isSet k f
+unfolding flags9
+keeps9 c k f l =
+    let g = if-keeps k _ _ _ (clear-keeps 5 2 k f l) (clear-one-keeps 4 k f (omega arith)) in
+    if-keeps k _ _ _ (set-keeps 4 k _ (omega arith) ∙ g)
+    (if-keeps k _ _ _ (set-keeps 5 k _ (omega arith) ∙ g) (if-keeps k _ _ _ (set-keeps 6 k _ l ∙ g) g))
+
+flag4 : (s : Settings) (v : Status) (word : ℕ) (up : Bool) → v .command < 26 → overdue s v word up ≡ true
+    → isSet (6 + v .command) (status4 s v word up .flags) ≡ true
+unfolding status4 withFlags withCommand if_then_else_
+flag4 s v word up l late = rw late (set-has (6 + v .command) (v .flags) (omega arith))
+
+flag-after : (s : Settings) (v : Status) (word : ℕ) (up : Bool) → v .command ≢ 0 → v .command < 26
+    → overdue s (status2 s (status1 v word) word) word up ≡ true
+    → isSet (6 + v .command) (statusFrom6 s (statusTo6 s v word up) word .flags) ≡ true
+unfolding statusFrom6 status10 withPrevious status9 issueStatus status7 statusTo6 status6 status5 status4 status2 status1 withFlags withMode withCommand withPositions if_then_else_
+flag-after s v word up ne lt late = go (eqb (issued s (statusTo6 s v word up) word) 0)
+  where
+    k : ℕ
+    k = 6 + v .command
+
+    above : 6 < k
+    above = omega arith
+
+    to6 : isSet k (statusTo6 s v word up .flags) ≡ true
+    to6 = put-keeps 1 k _ _ (omega arith) ∙ put-keeps 0 k _ _ (omega arith) ∙ flag4 s (status2 s (status1 v word) word) word up lt late
+
+    at7 : isSet k (status7 s (statusTo6 s v word up) word .flags) ≡ true
+    at7 = keeps7 s (statusTo6 s v word up) word k above ∙ to6
+
+    go : (b : Bool)
+        → isSet k ((if b then status7 s (statusTo6 s v word up) word else issueStatus s (status7 s (statusTo6 s v word up) word) (issued s (statusTo6 s v word up) word)) .flags)
+        ≡ true
+    go true = at7
+    go false = keeps9 _ k _ above ∙ at7
+
+-- ---- the book's numbers
+
+pub command-lt : (s : Settings) (h : Log Input) → bookOf s h .status .command < 8
+unfolding bookOf bookScan bookTo6 freshStatus
+command-lt s none = lit< tt
+command-lt s (h ▸ x) =
+    let b = bookOf s h in
+    let up = isUp s (b .issue) (h ▸ x) in
+    rw (command-after s (b .status) (x .word) up)
+    (if-lt _ (if-lt _ (lit< tt) (command-lt s h)) (issued-fits s (statusTo6 s (b .status) (x .word) up) (x .word)))
+
+three : (x up d : Bool) → _≡_ {A = ℕ} (if x then 1 else if up then 3 else if d then 2 else 0) 3 → (x ≡ false) × (up ≡ true)
+unfolding if_then_else_
+three true up d h = absurd (omega arith)
+three false true d h = (refl, refl)
+three false false true h = absurd (omega arith)
+three false false false h = absurd (omega arith)
+
+module _ (s : Settings) (v : Status) (word : ℕ) (up : Bool) (live : idle v ≡ false) where
+  x : Bool
+  x = confirms (reading s word) (v .command)
+
+  ends-live : endsIn s v word up ≡ (x || not x && up)
+  unfolding x endsIn status2 status1 withFlags withPositions withCommand confirmed overdue idle
+  ends-live = rw live
+
+  end-live : endIn s v word up ≡ (if x then 1 else if not x && up then 3 else 0)
+  unfolding x endIn status2 status1 withFlags withPositions withCommand confirmed overdue idle
+  end-live = rw live
+
+  issued-live : issued s (statusTo6 s v word up) word
+      ≡ (if (if eqb (if x || not x && up then 0 else v .command) 0 then starts (chosen s (statusTo6 s v word up) word) (statusTo6 s v word up .position)
+      else displaces (chosen s (statusTo6 s v word up) word) (if x || not x && up then 0 else v .command))
+      then chosen s (statusTo6 s v word up) word else 0)
+  unfolding x issued issues statusTo6 status6 status5 status4 withFlags withMode withCommand withPositions status2 status1 confirmed overdue idle
+  issued-live = rw live
+
+  late-live : x ≡ false → up ≡ true → overdue s (status2 s (status1 v word) word) word up ≡ true
+  unfolding x overdue status2 status1 withFlags withPositions withCommand idle
+  late-live c u = rw (live, c, u)
+
+issue-lt : (s : Settings) (h : Log Input) (y : Input) → bookOf s h .issue < count (h ▸ y)
+unfolding count
+issue-lt s h y = omega (arith, book-held s h .number)
+
+idle-go : (z t : Bool) (q i n k : ℕ) → k ≡ 0 → (if z then (if t then 0 else k) else q) ≢ 0 → (if z then i else n) ≡ n
+unfolding if_then_else_
+idle-go true true q i n k k0 ne = absurd (ne refl)
+idle-go true false q i n k k0 ne = absurd (ne k0)
+idle-go false t q i n k k0 ne = refl
+
+-- ---- the scan y after the history h
+
+module _ (s : Settings) (h : Log Input) (y : Input) where
+  turn-at : idle (bookOf s h .status) ≡ false
+      → Turn (bookOf s h .status .command) (chosenIn s h y) (bookOf s h .issue) (count (h ▸ y))
+      (fate s (bookOf s h .status .command) (bookOf s h .issue) h y) (bookOf s (h ▸ y) .status .command) (bookOf s (h ▸ y) .status .end)
+      (bookOf s (h ▸ y) .issue)
+  unfolding bookOf bookScan bookTo6 fate chosenIn idle x
+  turn-at live =
+      let b = bookOf s h in
+      let v = b .status in
+      let up = isUp s (b .issue) (h ▸ y) in
+      let w = statusTo6 s v (y .word) up in
+      rw (
+        command-after s v (y .word) up,
+        end-after s v (y .word) up,
+        ends-live s v (y .word) up live,
+        end-live s v (y .word) up live,
+      )
+      (turn (v .command) (chosen s w (y .word)) (issued s w (y .word)) (b .issue) (count (h ▸ y)) (confirms (reading s (y .word)) (v .command)) up
+      (starts (chosen s w (y .word)) (w .position)) live (issued-live s v (y .word) up live))
+
+  flag-at : idle (bookOf s h .status) ≡ false → fate s (bookOf s h .status .command) (bookOf s h .issue) h y ≡ end-overdue
+      → isSet (6 + bookOf s h .status .command) (bookOf s (h ▸ y) .status .flags) ≡ true
+  unfolding bookOf bookScan bookTo6 fate idle x
+  flag-at live f =
+      let b = bookOf s h in
+      let up = isUp s (b .issue) (h ▸ y) in
+      let t = three (confirms (reading s (y .word)) (b .status .command)) up _ f in
+      flag-after s (b .status) (y .word) up (eqb-false _ 0 live) (omega (arith, command-lt s h)) (late-live s (b .status) (y .word) up live (t .0) (t .1))
+
+  idle-at : idle (bookOf s h .status) ≡ true → bookOf s (h ▸ y) .status .command ≢ 0 → bookOf s (h ▸ y) .issue ≡ count (h ▸ y)
+  unfolding bookOf bookScan bookTo6 idle
+  idle-at id ne =
+      let b = bookOf s h in
+      let up = isUp s (b .issue) (h ▸ y) in
+      let q = issued s (statusTo6 s (b .status) (y .word) up) (y .word) in
+      idle-go (eqb q 0) _ q (b .issue) (count (h ▸ y)) (b .status .command) (eqb-true _ 0 id) (rw (command-after s (b .status) (y .word) up) at ne)
+
+  module _ (c i : ℕ) (u : UnderWay s c i h) where
+    live-of : idle (bookOf s h .status) ≡ false
+    unfolding idle
+    live-of = ne-eqb _ 0 (λ e. u .some (sym (u .command) ∙ e))
+
+    pub turn-of : Turn c (chosenIn s h y) i (count (h ▸ y)) (fate s c i h y) (bookOf s (h ▸ y) .status .command) (bookOf s (h ▸ y) .status .end)
+        (bookOf s (h ▸ y) .issue)
+    turn-of = rw (u .command, u .issue) at (turn-at live-of)
+
+    flag-of : fate s c i h y ≡ end-overdue → isSet (6 + c) (bookOf s (h ▸ y) .status .flags) ≡ true
+    flag-of = rw (u .command, u .issue) at (flag-at live-of)
+
+    pub goes-on : fate s c i h y ≡ no-end → UnderWay s c i (h ▸ y)
+    goes-on f = record { command = turn-of .stay f .0; issue = turn-of .stay f .1; some = u .some }
+
+    pub ends-of : Ends s c i (fate s c i h y) h y
+    unfolding count
+    ends-of =
+        record {
+          end = turn-of .end;
+          flag = flag-of;
+          next = λ f. record { command = turn-of .next f .0; issue = turn-of .next f .1; some = turn-of .next f .2 };
+          gone = λ f v. omega (arith, turn-of .gone f (λ e. u .some (sym (v .command) ∙ e)), v .issue, u .issue, book-held s h .number);
+        }
+
+-- a command that was issued before the scan y and is under way after it was so before it, and nothing befell it
+back : (s : Settings) (h : Log Input) (y : Input) (c i : ℕ) → i ≤ count h → UnderWay s c i (h ▸ y)
+    → UnderWay s c i h × (fate s c i h y ≡ no-end)
+unfolding count
+back s h y c i l u = go (idle (bookOf s h .status)) refl
+  where
+    c0 : ℕ
+    c0 = bookOf s h .status .command
+
+    i0 : ℕ
+    i0 = bookOf s h .issue
+
+    ne : bookOf s (h ▸ y) .status .command ≢ 0
+    ne e = u .some (sym (u .command) ∙ e)
+
+    same : (c0 ≡ c) → (i0 ≡ i) → fate s c0 i0 h y ≡ no-end → UnderWay s c i h × (fate s c i h y ≡ no-end)
+    same p q f = (record { command = p; issue = q; some = u .some }, rw (p, q) at f)
+
+    decide : Turn c0 (chosenIn s h y) i0 (count (h ▸ y)) (fate s c0 i0 h y) (bookOf s (h ▸ y) .status .command) (bookOf s (h ▸ y) .status .end)
+        (bookOf s (h ▸ y) .issue)
+        → Dec (fate s c0 i0 h y ≡ no-end) → UnderWay s c i h × (fate s c i h y ≡ no-end)
+    decide t (yes f) = same (sym (t .stay f .0) ∙ u .command) (sym (t .stay f .1) ∙ u .issue) f
+    decide t (no n) = absurd (omega (arith, t .gone n ne, u .issue))
+
+    go : (t : Bool) → idle (bookOf s h .status) ≡ t → UnderWay s c i h × (fate s c i h y ≡ no-end)
+    go true id = absurd (omega (arith, idle-at s h y id ne, u .issue))
+    go false live = decide (turn-at s h y live) (ℕ-discrete _ 0)
+
+-- ---- over the scans k after h
+
+pub count-le : (h k : Log Input) → count h ≤ count (h ⧺ k)
+unfolding count _⧺_
+count-le h none = omega arith
+count-le h (k ▸ y) = omega (arith, count-le h k)
+
+under-quiet : (s : Settings) (h k : Log Input) (c : ℕ) → UnderWay s c (count h) (h ⧺ k) → Quiet s c h k
+unfolding _⧺_
+under-quiet s h none c u = tt
+under-quiet s h (k ▸ y) c u =
+    let b = back s (h ⧺ k) y c (count h) (count-le h k) u in
+    (under-quiet s h k c (b .0), b .1)
+
+quiet-under : (s : Settings) (h k : Log Input) (c : ℕ) → Issued s c h → Quiet s c h k → UnderWay s c (count h) (h ⧺ k)
+unfolding _⧺_
+quiet-under s h none c u q = u
+quiet-under s h (k ▸ y) c u q = goes-on s (h ⧺ k) y c (count h) (quiet-under s h k c u (q .0)) (q .1)
+
+pub stays-is : (s : Settings) (h k : Log Input) (c : ℕ) → Issued s c h → UnderWay s c (count h) (h ⧺ k) ↔ Quiet s c h k
+stays-is s h k c u = (under-quiet s h k c, quiet-under s h k c u)
+
+pub ends-is : (s : Settings) (h k : Log Input) (y : Input) (c : ℕ) → Issued s c h → Quiet s c h k
+    → Ends s c (count h) (fate s c (count h) (h ⧺ k) y) (h ⧺ k) y
+ends-is s h k y c u q = ends-of s (h ⧺ k) y c (count h) (quiet-under s h k c u q)

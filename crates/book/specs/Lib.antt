@@ -1,0 +1,5 @@
+pub mod Log
+pub mod History
+pub mod Book
+pub mod Claim
+pub mod Run
