@@ -10,11 +10,11 @@ use Rattle.rules.specs.declared.Settings.{Settings}
 use Rattle.rules.specs.declared.Status.{Status}
 use Rattle.rules.specs.declared.Motor.{Motor}
 use Rattle.rules.specs.Record.{no-end, end-confirmed, end-displaced, end-overdue, idle, freshStatus, fresh, withMode, withPositions, withCommand, withFlags, withPrevious, withStatus}
-use Rattle.rules.specs.Steps.{status1, status2, confirmed, overdue, status4, status5, status6, status7, status9, issueStatus, status10, issued, step3, timeUp, step4, issue, step9, statusTo6, statusFrom6, stepsTo6, step}
-use Rattle.rules.specs.Refusals.{Input}
+use Rattle.rules.specs.Steps.{status1, status2, confirmed, overdue, ended, end4, flags4, status4, status5, status6, status7, status9, issueStatus, status10, issued, step3, timeUp, step4, issue, step9, status1to6, status7to10, steps1to6, step}
+use Rattle.rules.specs.Scans.{Input}
 use Rattle.book.specs.Log.{Log, none, _▸_, count}
 use Rattle.book.specs.History.{recordOf}
-use Rattle.book.specs.Book.{Book, since, isUp, bookTo6, bookScan, bookOf}
+use Rattle.book.specs.Book.{Book, since, isUp, book1to6, bookScan, bookOf}
 
 -- ---- the ten steps on the record, by its parts
 
@@ -22,11 +22,12 @@ use Rattle.book.specs.Book.{Book, since, isUp, bookTo6, bookScan, bookOf
 unfoldable upOf : Settings → Status → ℕ → ℕ → Bool
 upOf s v sum p = leb (s .w) (if idle v then sum else sum + p)
 
--- a command under way ends in step 4
+-- a command under way ends in step 4, and the end that this gives
 unfoldable pub endsIn : Settings → Status → ℕ → Bool → Bool
-endsIn s v word up =
-    let w = status2 s (status1 v word) word in
-    confirmed s w word || overdue s w word up
+endsIn s v word up = ended s (status2 s (status1 v word) word) word up
+
+unfoldable pub endIn : Settings → Status → ℕ → Bool → ℕ
+endIn s v word up = end4 s (status2 s (status1 v word) word) word up
 
 step9-settings : (m : Motor) (c : ℕ) → step9 m c .settings ≡ m .settings
 unfolding step9 if_then_else_ issue
@@ -53,67 +54,61 @@ step9-sum m c = go (eqb c 0)
     go false = refl
 
 settings-step : (m : Motor) (word p : ℕ) → step m word p .settings ≡ m .settings
-unfolding step stepsTo6 withStatus step4 step3
+unfolding step steps1to6 withStatus step4 step3
 settings-step m word p = step9-settings _ _
 
 status-step : (m : Motor) (word p : ℕ) (s : Settings) (v : Status) → m .settings ≡ s → m .status ≡ v
-    → step m word p .status ≡ statusFrom6 s (statusTo6 s v word (upOf s v (m .sum) p)) word
-unfolding step stepsTo6 withStatus step4 step3 timeUp statusTo6 statusFrom6 upOf idle status2 status1 withFlags withPositions withCommand
+    → step m word p .status ≡ status7to10 s (status1to6 s v word (upOf s v (m .sum) p)) word
+unfolding step steps1to6 withStatus step4 step3 timeUp status1to6 status7to10 upOf idle status2 status1 withFlags withPositions withCommand
 status-step m word p s v e f = rw (← e, ← f) (ap (λ (v : Status). status10 v word) (step9-status _ _))
 
 sum-step : (m : Motor) (word p : ℕ) (s : Settings) (v : Status) → m .settings ≡ s → m .status ≡ v
     → step m word p .sum
-    ≡ (if eqb (issued s (statusTo6 s v word (upOf s v (m .sum) p)) word) 0
+    ≡ (if eqb (issued s (status1to6 s v word (upOf s v (m .sum) p)) word) 0
     then (if endsIn s v word (upOf s v (m .sum) p) then 0 else if idle v then m .sum else m .sum + p)
     else 0)
-unfolding step stepsTo6 withStatus step4 step3 timeUp statusTo6 endsIn upOf idle status2 status1 withFlags withPositions withCommand
+unfolding step steps1to6 withStatus step4 step3 timeUp status1to6 endsIn upOf idle status2 status1 withFlags withPositions withCommand
 sum-step m word p s v e f = rw (← e, ← f) (step9-sum _ _)
 
 -- ---- the book's status, by its parts
 
--- the end that step 4 gives
-unfoldable pub endIn : Settings → Status → ℕ → Bool → ℕ
-endIn s v word up =
-    let w = status2 s (status1 v word) word in
-    if confirmed s w word then end-confirmed else if overdue s w word up then end-overdue else no-end
-
 -- command and end after a scan
 pub command-after : (s : Settings) (v : Status) (word : ℕ) (up : Bool)
-    → statusFrom6 s (statusTo6 s v word up) word .command
-    ≡ (if eqb (issued s (statusTo6 s v word up) word) 0 then (if endsIn s v word up then 0 else v .command) else issued s (statusTo6 s v word up) word)
-unfolding statusFrom6 status10 status9 withPrevious if_then_else_ issueStatus status7 withFlags withMode withCommand withPositions statusTo6 status6 status5 status4 status2 status1 endsIn
-command-after s v word up = go (eqb (issued s (statusTo6 s v word up) word) 0)
+    → status7to10 s (status1to6 s v word up) word .command
+    ≡ (if eqb (issued s (status1to6 s v word up) word) 0 then (if endsIn s v word up then 0 else v .command) else issued s (status1to6 s v word up) word)
+unfolding status7to10 status10 status9 withPrevious if_then_else_ issueStatus status7 withFlags withMode withCommand withPositions status1to6 status6 status5 status4 status2 status1 endsIn
+command-after s v word up = go (eqb (issued s (status1to6 s v word up) word) 0)
   where
     c : ℕ
-    c = issued s (statusTo6 s v word up) word
+    c = issued s (status1to6 s v word up) word
 
     go : (b : Bool)
-        → (if b then status7 s (statusTo6 s v word up) word else issueStatus s (status7 s (statusTo6 s v word up) word) c) .command
+        → (if b then status7 s (status1to6 s v word up) word else issueStatus s (status7 s (status1to6 s v word up) word) c) .command
         ≡ (if b then (if endsIn s v word up then 0 else v .command) else c)
     go true = refl
     go false = refl
 
 pub end-after : (s : Settings) (v : Status) (word : ℕ) (up : Bool)
-    → statusFrom6 s (statusTo6 s v word up) word .end
-    ≡ (if eqb (issued s (statusTo6 s v word up) word) 0 then endIn s v word up
+    → status7to10 s (status1to6 s v word up) word .end
+    ≡ (if eqb (issued s (status1to6 s v word up) word) 0 then endIn s v word up
     else if eqb (if endsIn s v word up then 0 else v .command) 0 then endIn s v word up else end-displaced)
-unfolding statusFrom6 status10 status9 withPrevious if_then_else_ issueStatus status7 withFlags withMode withCommand withPositions statusTo6 status6 status5 status4 status2 status1 endsIn endIn idle
-end-after s v word up = go (eqb (issued s (statusTo6 s v word up) word) 0)
+unfolding status7to10 status10 status9 withPrevious if_then_else_ issueStatus status7 withFlags withMode withCommand withPositions status1to6 status6 status5 status4 status2 status1 endsIn endIn ended end4 idle
+end-after s v word up = go (eqb (issued s (status1to6 s v word up) word) 0)
   where
     go : (b : Bool)
-        → (if b then status7 s (statusTo6 s v word up) word else issueStatus s (status7 s (statusTo6 s v word up) word) (issued s (statusTo6 s v word up) word)) .end
+        → (if b then status7 s (status1to6 s v word up) word else issueStatus s (status7 s (status1to6 s v word up) word) (issued s (status1to6 s v word up) word)) .end
         ≡ (if b then endIn s v word up else if eqb (if endsIn s v word up then 0 else v .command) 0 then endIn s v word up else end-displaced)
     go true = refl
     go false = refl
 
 -- with no command under way it does not matter whether the time is up
 same4 : (s : Settings) (v : Status) (word : ℕ) (a b t : Bool) → idle v ≡ t → (t ≡ false → a ≡ b) → status4 s v word a ≡ status4 s v word b
-unfolding status4 overdue
+unfolding status4 ended end4 flags4 overdue
 same4 s v word a b true e h = rw e
 same4 s v word a b false e h = ap (status4 s v word) (h refl)
 
-same-to6 : (s : Settings) (v : Status) (word : ℕ) (a b : Bool) → (idle v ≡ false → a ≡ b) → statusTo6 s v word a ≡ statusTo6 s v word b
-unfolding statusTo6 idle status2 status1 withFlags withPositions withCommand
+same-to6 : (s : Settings) (v : Status) (word : ℕ) (a b : Bool) → (idle v ≡ false → a ≡ b) → status1to6 s v word a ≡ status1to6 s v word b
+unfolding status1to6 idle status2 status1 withFlags withPositions withCommand
 same-to6 s v word a b h =
     ap (λ (x : Status). status6 s (status5 s x word) word) (same4 s (status2 s (status1 v word) word) word a b (idle v) refl h)
 
@@ -152,11 +147,11 @@ module _ (s : Settings) (h : Log Input) (m : Motor) (b : Book) (x : Input) (k : 
   unfolding upM upB upOf isUp if_then_else_
   up-same i = rw (i, one-since (b .issue) h x (k .number), k .sum-is i)
 
-  to6-same : statusTo6 s (b .status) (x .word) upM ≡ statusTo6 s (b .status) (x .word) upB
+  to6-same : status1to6 s (b .status) (x .word) upM ≡ status1to6 s (b .status) (x .word) upB
   to6-same = same-to6 s (b .status) (x .word) upM upB up-same
 
   status-held : step m (x .word) (x .period) .status ≡ bookScan s b (h ▸ x) (x .word) .status
-  unfolding bookScan bookTo6 upM upB
+  unfolding bookScan book1to6 upM upB
   status-held = status-step m (x .word) (x .period) s (b .status) (k .settings-is) (k .status-is) ∙ rw to6-same
 
   held-sum : (c : ℕ) (z t : Bool) → eqb (if z then (if t then 0 else b .status .command) else c) 0 ≡ false
@@ -167,18 +162,18 @@ module _ (s : Settings) (h : Log Input) (m : Motor) (b : Book) (x : Input) (k : 
   held-sum c true true i = cc
   held-sum c true false i = rw (i, one-since (b .issue) h x (k .number), k .sum-is i)
 
-  sum-held : idle (statusFrom6 s (statusTo6 s (b .status) (x .word) upB) (x .word)) ≡ false
+  sum-held : idle (status7to10 s (status1to6 s (b .status) (x .word) upB) (x .word)) ≡ false
       → step m (x .word) (x .period) .sum
-      ≡ since (if eqb (issued s (statusTo6 s (b .status) (x .word) upB) (x .word)) 0 then b .issue else count (h ▸ x)) (h ▸ x)
+      ≡ since (if eqb (issued s (status1to6 s (b .status) (x .word) upB) (x .word)) 0 then b .issue else count (h ▸ x)) (h ▸ x)
   unfolding idle upM
   sum-held i =
       sum-step m (x .word) (x .period) s (b .status) (k .settings-is) (k .status-is)
       ∙ rw (← to6-same)
-      (held-sum (issued s (statusTo6 s (b .status) (x .word) upM) (x .word)) _ _
+      (held-sum (issued s (status1to6 s (b .status) (x .word) upM) (x .word)) _ _
       (rw (command-after s (b .status) (x .word) upM) at (rw (← to6-same) at i)))
 
   pub held : Held s (h ▸ x) (step m (x .word) (x .period)) (bookScan s b (h ▸ x) (x .word))
-  unfolding bookScan bookTo6 count upB
+  unfolding bookScan book1to6 count upB
   held =
       record {
         settings-is = settings-step m (x .word) (x .period) ∙ k .settings-is;

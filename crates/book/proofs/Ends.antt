@@ -11,12 +11,12 @@ use Rattle.words.specs.Word.{if_then_else_, isSet, withBit, withoutBit, without
 use Rattle.words.proofs.Laws.{if-lt, set-has, set-keeps, clear-keeps}
 use Rattle.rules.specs.declared.Settings.{Settings}
 use Rattle.rules.specs.declared.Status.{Status}
-use Rattle.rules.specs.Record.{no-command, no-end, end-confirmed, end-displaced, end-overdue, idle, freshStatus, withMode, withPositions, withCommand, withFlags, withPrevious}
-use Rattle.rules.specs.Steps.{reading, confirms, confirmed, overdue, status1, status2, status4, putFlag, status5, status6, flags7, status7, chosen, displaces, starts, issues, issued, flags9, issueStatus, status9, status10, statusTo6, statusFrom6}
-use Rattle.rules.specs.Refusals.{Input}
+use Rattle.rules.specs.Record.{no-command, no-end, end-confirmed, end-displaced, end-overdue, overdueFlag, idle, freshStatus, withMode, withPositions, withCommand, withFlags, withPrevious}
+use Rattle.rules.specs.Steps.{reading, confirms, confirmed, overdue, ended, end4, flags4, status1, status2, status4, putFlag, status5, status6, flags7, status7, chosen, displaces, starts, issues, issued, flags9, issueStatus, status9, status10, status1to6, status7to10}
+use Rattle.rules.specs.Scans.{Input}
 use Rattle.rules.proofs.Range.{issued-fits}
 use Rattle.book.specs.Log.{Log, none, _▸_, _⧺_, count}
-use Rattle.book.specs.Book.{since, isUp, bookTo6, bookScan, bookOf}
+use Rattle.book.specs.Book.{since, isUp, book1to6, bookScan, bookOf}
 use Rattle.book.specs.Claim.{UnderWay, Issued, chosenIn, fate, Quiet, Ends}
 use Rattle.book.proofs.Book.{book-held, endsIn, endIn, command-after, end-after}
 
@@ -103,30 +103,30 @@ keeps9 c k f l =
     (if-keeps k _ _ _ (set-keeps 5 k _ (omega arith) ∙ g) (if-keeps k _ _ _ (set-keeps 6 k _ l ∙ g) g))
 
 flag4 : (s : Settings) (v : Status) (word : ℕ) (up : Bool) → v .command < 26 → overdue s v word up ≡ true
-    → isSet (6 + v .command) (status4 s v word up .flags) ≡ true
-unfolding status4 withFlags withCommand if_then_else_
+    → isSet (overdueFlag (v .command)) (status4 s v word up .flags) ≡ true
+unfolding status4 flags4 withFlags withCommand if_then_else_ overdueFlag
 flag4 s v word up l late = rw late (set-has (6 + v .command) (v .flags) (omega arith))
 
 flag-after : (s : Settings) (v : Status) (word : ℕ) (up : Bool) → v .command ≢ 0 → v .command < 26
     → overdue s (status2 s (status1 v word) word) word up ≡ true
-    → isSet (6 + v .command) (statusFrom6 s (statusTo6 s v word up) word .flags) ≡ true
-unfolding statusFrom6 status10 withPrevious status9 issueStatus status7 statusTo6 status6 status5 status4 status2 status1 withFlags withMode withCommand withPositions if_then_else_
-flag-after s v word up ne lt late = go (eqb (issued s (statusTo6 s v word up) word) 0)
+    → isSet (overdueFlag (v .command)) (status7to10 s (status1to6 s v word up) word .flags) ≡ true
+unfolding status7to10 status10 withPrevious status9 issueStatus status7 status1to6 status6 status5 status4 status2 status1 withFlags withMode withCommand withPositions if_then_else_ overdueFlag
+flag-after s v word up ne lt late = go (eqb (issued s (status1to6 s v word up) word) 0)
   where
     k : ℕ
-    k = 6 + v .command
+    k = overdueFlag (v .command)
 
     above : 6 < k
     above = omega arith
 
-    to6 : isSet k (statusTo6 s v word up .flags) ≡ true
+    to6 : isSet k (status1to6 s v word up .flags) ≡ true
     to6 = put-keeps 1 k _ _ (omega arith) ∙ put-keeps 0 k _ _ (omega arith) ∙ flag4 s (status2 s (status1 v word) word) word up lt late
 
-    at7 : isSet k (status7 s (statusTo6 s v word up) word .flags) ≡ true
-    at7 = keeps7 s (statusTo6 s v word up) word k above ∙ to6
+    at7 : isSet k (status7 s (status1to6 s v word up) word .flags) ≡ true
+    at7 = keeps7 s (status1to6 s v word up) word k above ∙ to6
 
     go : (b : Bool)
-        → isSet k ((if b then status7 s (statusTo6 s v word up) word else issueStatus s (status7 s (statusTo6 s v word up) word) (issued s (statusTo6 s v word up) word)) .flags)
+        → isSet k ((if b then status7 s (status1to6 s v word up) word else issueStatus s (status7 s (status1to6 s v word up) word) (issued s (status1to6 s v word up) word)) .flags)
         ≡ true
     go true = at7
     go false = keeps9 _ k _ above ∙ at7
@@ -134,13 +134,13 @@ flag-after s v word up ne lt late = go (eqb (issued s (statusTo6 s v word up) wo
 -- ---- the book's numbers
 
 pub command-lt : (s : Settings) (h : Log Input) → bookOf s h .status .command < 8
-unfolding bookOf bookScan bookTo6 freshStatus
+unfolding bookOf bookScan book1to6 freshStatus
 command-lt s none = lit< tt
 command-lt s (h ▸ x) =
     let b = bookOf s h in
     let up = isUp s (b .issue) (h ▸ x) in
     rw (command-after s (b .status) (x .word) up)
-    (if-lt _ (if-lt _ (lit< tt) (command-lt s h)) (issued-fits s (statusTo6 s (b .status) (x .word) up) (x .word)))
+    (if-lt _ (if-lt _ (lit< tt) (command-lt s h)) (issued-fits s (status1to6 s (b .status) (x .word) up) (x .word)))
 
 three : (x up d : Bool) → _≡_ {A = ℕ} (if x then 1 else if up then 3 else if d then 2 else 0) 3 → (x ≡ false) × (up ≡ true)
 unfolding if_then_else_
@@ -154,18 +154,18 @@ module _ (s : Settings) (v : Status) (word : ℕ) (up : Bool) (live : idle v ≡
   x = confirms (reading s word) (v .command)
 
   ends-live : endsIn s v word up ≡ (x || not x && up)
-  unfolding x endsIn status2 status1 withFlags withPositions withCommand confirmed overdue idle
+  unfolding x endsIn ended status2 status1 withFlags withPositions withCommand confirmed overdue idle
   ends-live = rw live
 
   end-live : endIn s v word up ≡ (if x then 1 else if not x && up then 3 else 0)
-  unfolding x endIn status2 status1 withFlags withPositions withCommand confirmed overdue idle
+  unfolding x endIn end4 status2 status1 withFlags withPositions withCommand confirmed overdue idle
   end-live = rw live
 
-  issued-live : issued s (statusTo6 s v word up) word
-      ≡ (if (if eqb (if x || not x && up then 0 else v .command) 0 then starts (chosen s (statusTo6 s v word up) word) (statusTo6 s v word up .position)
-      else displaces (chosen s (statusTo6 s v word up) word) (if x || not x && up then 0 else v .command))
-      then chosen s (statusTo6 s v word up) word else 0)
-  unfolding x issued issues statusTo6 status6 status5 status4 withFlags withMode withCommand withPositions status2 status1 confirmed overdue idle
+  issued-live : issued s (status1to6 s v word up) word
+      ≡ (if (if eqb (if x || not x && up then 0 else v .command) 0 then starts (chosen s (status1to6 s v word up) word) (status1to6 s v word up .position)
+      else displaces (chosen s (status1to6 s v word up) word) (if x || not x && up then 0 else v .command))
+      then chosen s (status1to6 s v word up) word else 0)
+  unfolding x issued issues status1to6 status6 status5 status4 ended withFlags withMode withCommand withPositions status2 status1 confirmed overdue idle
   issued-live = rw live
 
   late-live : x ≡ false → up ≡ true → overdue s (status2 s (status1 v word) word) word up ≡ true
@@ -189,12 +189,12 @@ module _ (s : Settings) (h : Log Input) (y : Input) where
       → Turn (bookOf s h .status .command) (chosenIn s h y) (bookOf s h .issue) (count (h ▸ y))
       (fate s (bookOf s h .status .command) (bookOf s h .issue) h y) (bookOf s (h ▸ y) .status .command) (bookOf s (h ▸ y) .status .end)
       (bookOf s (h ▸ y) .issue)
-  unfolding bookOf bookScan bookTo6 fate chosenIn idle x
+  unfolding bookOf bookScan book1to6 fate chosenIn idle x
   turn-at live =
       let b = bookOf s h in
       let v = b .status in
       let up = isUp s (b .issue) (h ▸ y) in
-      let w = statusTo6 s v (y .word) up in
+      let w = status1to6 s v (y .word) up in
       rw (
         command-after s v (y .word) up,
         end-after s v (y .word) up,
@@ -205,8 +205,8 @@ module _ (s : Settings) (h : Log Input) (y : Input) where
       (starts (chosen s w (y .word)) (w .position)) live (issued-live s v (y .word) up live))
 
   flag-at : idle (bookOf s h .status) ≡ false → fate s (bookOf s h .status .command) (bookOf s h .issue) h y ≡ end-overdue
-      → isSet (6 + bookOf s h .status .command) (bookOf s (h ▸ y) .status .flags) ≡ true
-  unfolding bookOf bookScan bookTo6 fate idle x
+      → isSet (overdueFlag (bookOf s h .status .command)) (bookOf s (h ▸ y) .status .flags) ≡ true
+  unfolding bookOf bookScan book1to6 fate idle x
   flag-at live f =
       let b = bookOf s h in
       let up = isUp s (b .issue) (h ▸ y) in
@@ -214,11 +214,11 @@ module _ (s : Settings) (h : Log Input) (y : Input) where
       flag-after s (b .status) (y .word) up (eqb-false _ 0 live) (omega (arith, command-lt s h)) (late-live s (b .status) (y .word) up live (t .0) (t .1))
 
   idle-at : idle (bookOf s h .status) ≡ true → bookOf s (h ▸ y) .status .command ≢ 0 → bookOf s (h ▸ y) .issue ≡ count (h ▸ y)
-  unfolding bookOf bookScan bookTo6 idle
+  unfolding bookOf bookScan book1to6 idle
   idle-at id ne =
       let b = bookOf s h in
       let up = isUp s (b .issue) (h ▸ y) in
-      let q = issued s (statusTo6 s (b .status) (y .word) up) (y .word) in
+      let q = issued s (status1to6 s (b .status) (y .word) up) (y .word) in
       idle-go (eqb q 0) _ q (b .issue) (count (h ▸ y)) (b .status .command) (eqb-true _ 0 id) (rw (command-after s (b .status) (y .word) up) at ne)
 
   module _ (c i : ℕ) (u : UnderWay s c i h) where
@@ -230,7 +230,7 @@ module _ (s : Settings) (h : Log Input) (y : Input) where
         (bookOf s (h ▸ y) .issue)
     turn-of = rw (u .command, u .issue) at (turn-at live-of)
 
-    flag-of : fate s c i h y ≡ end-overdue → isSet (6 + c) (bookOf s (h ▸ y) .status .flags) ≡ true
+    flag-of : fate s c i h y ≡ end-overdue → isSet (overdueFlag c) (bookOf s (h ▸ y) .status .flags) ≡ true
     flag-of = rw (u .command, u .issue) at (flag-at live-of)
 
     pub goes-on : fate s c i h y ≡ no-end → UnderWay s c i (h ▸ y)

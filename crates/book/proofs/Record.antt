@@ -11,7 +11,8 @@ use Rattle.words.specs.Word.{if_then_else_}
 use Rattle.rules.specs.declared.Settings.{Settings}
 use Rattle.rules.specs.declared.Motor.{Motor}
 use Rattle.rules.specs.Steps.{step}
-use Rattle.rules.specs.Refusals.{Input, countsOk, tableRefusal, tableAfter, oneAfter, stepAll}
+use Rattle.rules.specs.Refusals.{countsOk, tableRefusal, tableAfter, oneAfter, stepAll}
+use Rattle.rules.specs.Scans.{Input}
 use Rattle.book.specs.Log.{Log, none, _▸_}
 use Rattle.book.specs.History.{Entry, table, single, otherTable, otherSingle, resultOf, after, inputOf, takesIn, counts, recordAfter, history, recordOf}
 

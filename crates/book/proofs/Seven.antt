@@ -7,14 +7,14 @@ use native.Mathlib.Omega.{arith}
 use lib.Dec.{leb}
 use Rattle.rules.specs.declared.Settings.{Settings}
 use Rattle.rules.specs.Record.{end-confirmed, end-displaced, end-overdue}
-use Rattle.rules.specs.Refusals.{Input}
+use Rattle.rules.specs.Scans.{Input}
 use Rattle.rules.specs.Opened.{opened}
 use Rattle.book.specs.Log.{Log, none, _▸_, _⧺_, count}
-use Rattle.book.specs.Book.{since, isUp, bookTo6, bookScan, bookOf}
+use Rattle.book.specs.Book.{since, isUp, book1to6, bookScan, bookOf}
 use Rattle.book.specs.Claim.{chosenIn, fate, Chain, first, waits, displaced, total, longest}
 
 unfoldable pub bookOpened : Type 0
-unfolding opened _⧺_ count since isUp bookTo6 bookScan bookOf chosenIn fate total longest
+unfolding opened _⧺_ count since isUp book1to6 bookScan bookOf chosenIn fate total longest
 bookOpened = Unit {0}
 
 unfoldable pub wired : ℕ → Settings

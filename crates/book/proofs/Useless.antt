@@ -10,7 +10,7 @@ use Rattle.words.specs.Word.{if_then_else_}
 use Rattle.rules.specs.declared.Settings.{Settings}
 use Rattle.rules.specs.Record.{end-overdue, idle}
 use Rattle.rules.specs.Steps.{reading, confirms, displaces}
-use Rattle.rules.specs.Refusals.{Input}
+use Rattle.rules.specs.Scans.{Input}
 use Rattle.book.specs.Log.{Log, none, _▸_, count}
 use Rattle.book.specs.History.{Entry, recordAfter, history}
 use Rattle.book.specs.Book.{since, isUp, bookOf}

@@ -6,8 +6,8 @@ use Rattle.words.specs.Word.{if_then_else_}
 use Rattle.rules.specs.declared.Settings.{Settings}
 use Rattle.rules.specs.declared.Status.{Status}
 use Rattle.rules.specs.Record.{no-command, freshStatus}
-use Rattle.rules.specs.Steps.{issued, statusTo6, statusFrom6}
-use Rattle.rules.specs.Refusals.{Input}
+use Rattle.rules.specs.Steps.{issued, status1to6, status7to10}
+use Rattle.rules.specs.Scans.{Input}
 use Rattle.book.specs.Log.{Log, none, _▸_, count}
 
 -- It holds the command under way, end, mode, last sure position, position, flags and previous word, and the number of the scan that issued
@@ -26,15 +26,15 @@ unfoldable pub isUp : Settings → ℕ → Log Input → Bool
 isUp s i h = leb (s .w) (since i h)
 
 -- Steps 1 and 2, the end of a command under way, steps 5 and 6; h is the history up to and with this scan, whose word is given.
-unfoldable pub bookTo6 : Settings → Book → Log Input → ℕ → Status
-bookTo6 s b h word = statusTo6 s (b .status) word (isUp s (b .issue) h)
+unfoldable pub book1to6 : Settings → Book → Log Input → ℕ → Status
+book1to6 s b h word = status1to6 s (b .status) word (isUp s (b .issue) h)
 
 -- Steps 7 to 10: the command issued is entered with the number of this scan.
 unfoldable pub bookScan : Settings → Book → Log Input → ℕ → Book
 bookScan s b h word =
-    let v = bookTo6 s b h word in
+    let v = book1to6 s b h word in
     record {
-      status = statusFrom6 s v word;
+      status = status7to10 s v word;
       issue = if eqb (issued s v word) no-command then b .issue else count h;
     }
 

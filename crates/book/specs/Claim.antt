@@ -5,12 +5,12 @@ use mathlib.Core.Logic.{_↔_, _≢_, _⊎_}
 use mathlib.Core.Bool.{Bool, true, false}
 use Rattle.words.specs.Word.{if_then_else_, isSet}
 use Rattle.rules.specs.declared.Settings.{Settings}
-use Rattle.rules.specs.Record.{no-command, no-end, end-confirmed, end-displaced, end-overdue, idle}
+use Rattle.rules.specs.Record.{no-command, no-end, end-confirmed, end-displaced, end-overdue, overdueFlag, idle}
 use Rattle.rules.specs.Steps.{reading, confirms, chosen, displaces, step}
-use Rattle.rules.specs.Refusals.{Input}
+use Rattle.rules.specs.Scans.{Input}
 use Rattle.book.specs.Log.{Log, none, _▸_, _⧺_, count}
 use Rattle.book.specs.History.{Entry, inputOf, counts, recordAfter, history, recordOf}
-use Rattle.book.specs.Book.{Book, since, isUp, bookTo6, bookOf}
+use Rattle.book.specs.Book.{Book, since, isUp, book1to6, bookOf}
 
 -- A command is issued, under way or ended as the book has it: after h the command c, issued in scan i, is under way.
 pub record UnderWay (s : Settings) (c i : ℕ) (h : Log Input) : Type 0 where
@@ -24,7 +24,7 @@ Issued s c h = UnderWay s c (count h) h
 
 -- the command that step 8 chooses in the scan x after h
 unfoldable pub chosenIn : Settings → Log Input → Input → ℕ
-chosenIn s h x = chosen s (bookTo6 s (bookOf s h) (h ▸ x) (x .word)) (x .word)
+chosenIn s h x = chosen s (book1to6 s (bookOf s h) (h ▸ x) (x .word)) (x .word)
 
 -- What the scan x after h does to the command c issued in scan i: the switches confirm it; otherwise its monitoring time is up; otherwise
 -- the chosen command displaces it, if step 8 lets it; otherwise nothing.
@@ -44,7 +44,7 @@ Quiet s c h (k ▸ x) = Quiet s c h k × (fate s c (count h) (h ⧺ k) x ≡ no-
 -- set; the command that displaces it is entered; and a command that has ended is under way no more.
 pub record Ends (s : Settings) (c i f : ℕ) (h : Log Input) (x : Input) : Type 0 where
   pub end : bookOf s (h ▸ x) .status .end ≡ f
-  pub flag : f ≡ end-overdue → isSet (6 + c) (bookOf s (h ▸ x) .status .flags) ≡ true
+  pub flag : f ≡ end-overdue → isSet (overdueFlag c) (bookOf s (h ▸ x) .status .flags) ≡ true
   pub next : f ≡ end-displaced → Issued s (chosenIn s h x) (h ▸ x)
   pub gone : f ≢ no-end → ¬ (UnderWay s c i (h ▸ x))
 

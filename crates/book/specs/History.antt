@@ -10,7 +10,8 @@ use Rattle.rules.specs.declared.Settings.{Settings}
 use Rattle.rules.specs.declared.Motor.{Motor}
 use Rattle.rules.specs.Record.{fresh}
 use Rattle.rules.specs.Steps.{step}
-use Rattle.rules.specs.Refusals.{Input, oneRefusal, oneAfter, tableRefusal, tableAfter}
+use Rattle.rules.specs.Refusals.{oneRefusal, oneAfter, tableRefusal, tableAfter}
+use Rattle.rules.specs.Scans.{Input}
 use Rattle.book.specs.Log.{Log, none, _▸_}
 
 -- An entry is a table scan with words and a period, or a scan of a single motor, lent one record of the table, with a word and a period.

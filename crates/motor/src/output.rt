@@ -1,8 +1,8 @@
 // The output: what drops it, and what raises it.
 ghost use mathlib.Core.Path.{_≡_};
 ghost use Rattle.words.specs.Word.{if_then_else_};
-ghost use Rattle.rules.specs.Record.{ownOutput, oppositeOutput, noOutput};
-ghost use Rattle.rules.specs.Steps.{running, timeUp, drops, raised, output9};
+ghost use Rattle.rules.specs.Record.{ownOutput, oppositeOutput, dropped};
+ghost use Rattle.rules.specs.Steps.{running, timeUp, pulseOver, drops, raises, raised, withoutOpposite, output9};
 use rules::Motor;
 use rules::Output;
 use rules::Settings;
@@ -22,7 +22,7 @@ pub fn choose_output(test: bool, a: Output, b: Output) -> Output
 }
 
 pub fn none() -> Output
-    ensures { λ r. ⌜ r ≡ noOutput ⌝ }
+    ensures { λ r. ⌜ r ≡ dropped ⌝ }
 {
     Output { state: 0, sum: 0 }
 }
@@ -53,6 +53,12 @@ pub fn is_time_up(m: Motor) -> bool
     m.settings.w <= m.sum
 }
 
+pub fn is_pulse_over(s: Settings, o: Output) -> bool
+    ensures { λ r. ⌜ r ≡ pulseOver s o ⌝ }
+{
+    s.u <= o.sum
+}
+
 // Whether the pulse drops in step 4.
 pub fn is_dropped(m: Motor, word: u32) -> bool
     ensures { λ r. ⌜ r ≡ drops m word ⌝ }
@@ -62,26 +68,37 @@ pub fn is_dropped(m: Motor, word: u32) -> bool
     let o = m.output;
     let late = is_overdue(s, v, word, is_time_up(m)) & (o.state == own(v.command));
     let done = is_confirmed(s, v, word) & has(s.ops1, 7);
-    is_running(s, o) & ((s.u <= o.sum) | late | done)
+    is_running(s, o) & (is_pulse_over(s, o) | late | done)
 }
 
 // Whether issuing c raises its output.
-pub fn is_raised(s: Settings, c: u32) -> bool
-    ensures { λ r. ⌜ r ≡ raised s c ⌝ }
+pub fn is_raising(s: Settings, c: u32) -> bool
+    ensures { λ r. ⌜ r ≡ raises s c ⌝ }
 {
     let sma = (c == 1) & !has(s.ops1, 12);
     let mu = is_local(c) & !has(s.ops1, 2);
     !(sma | mu | is_off(c) & !has(s.ops1, 6))
 }
 
-// The output after issuing c.
-pub fn raise(s: Settings, o: Output, c: u32) -> Output
-    ensures { λ r. ⌜ r ≡ output9 s o c ⌝ }
+pub fn raise(c: u32) -> Output
+    ensures { λ r. ⌜ r ≡ raised c ⌝ }
 {
-    let kept = choose_output(o.state == opposite(c), none(), o);
-    let raised = Output {
+    Output {
         state: own(c),
         sum: 0,
-    };
-    choose_output(is_raised(s, c), raised, kept)
+    }
+}
+
+// The output, but for one opposite to c.
+pub fn drop_opposite(o: Output, c: u32) -> Output
+    ensures { λ r. ⌜ r ≡ withoutOpposite o c ⌝ }
+{
+    choose_output(o.state == opposite(c), none(), o)
+}
+
+// The output after issuing c.
+pub fn output_after(s: Settings, o: Output, c: u32) -> Output
+    ensures { λ r. ⌜ r ≡ output9 s o c ⌝ }
+{
+    choose_output(is_raising(s, c), raise(c), drop_opposite(o, c))
 }

@@ -1,21 +1,20 @@
 // The ten steps on the record.
 ghost use mathlib.Core.Path.{_≡_};
-ghost use Rattle.rules.specs.Refusals.{SumsFit};
+ghost use Rattle.rules.specs.Scans.{SumsFit};
 ghost use Rattle.rules.specs.Record.{withStatus};
-ghost use Rattle.rules.specs.Steps.{step3, step4, issue, step9, stepsTo6, step};
+ghost use Rattle.rules.specs.Steps.{step3, step4, issue, step9, steps1to6, step};
 use crate::output::choose_output;
 use crate::output::is_dropped;
 use crate::output::is_running;
 use crate::output::is_time_up;
 use crate::output::none;
-use crate::output::raise;
+use crate::output::output_after;
 use rules::Motor;
 use rules::Status;
 use status::choice::acknowledge;
 use status::choice::to_issue;
 use status::end::end_command;
-use status::end::is_confirmed;
-use status::end::is_overdue;
+use status::end::is_ended;
 use status::faults::form_flags;
 use status::issue::issue_status;
 use status::issue::keep_word;
@@ -55,7 +54,7 @@ pub fn settle(m: Motor, word: u32) -> Motor
     let v = m.status;
     let o = m.output;
     let up = is_time_up(m);
-    let ended = is_confirmed(s, v, word) | is_overdue(s, v, word, up);
+    let ended = is_ended(s, v, word, up);
     Motor {
         settings: s,
         status: end_command(s, v, word, up),
@@ -75,7 +74,7 @@ pub fn issue_command(m: Motor, c: u32) -> Motor
         settings: s,
         status: issue_status(s, v, c),
         sum: 0,
-        output: raise(s, o, c),
+        output: output_after(s, o, c),
     }
 }
 
@@ -89,7 +88,7 @@ pub fn issue_any(m: Motor, c: u32) -> Motor
 // Steps 1 to 6.
 pub fn first_steps(m: Motor, word: u32, period: u32) -> Motor
     requires { ⌜ SumsFit m period ⌝ }
-    ensures { λ r. ⌜ r ≡ stepsTo6 m word period ⌝ }
+    ensures { λ r. ⌜ r ≡ steps1to6 m word period ⌝ }
 {
     let s = m.settings;
     let v = m.status;

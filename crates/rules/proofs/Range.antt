@@ -17,9 +17,10 @@ use Rattle.rules.specs.declared.Output.{Output}
 use Rattle.rules.specs.declared.Motor.{Motor}
 use Rattle.rules.specs.declared.Reading.{Reading}
 use Rattle.rules.specs.declared.Reading.the-variants.{Off, On, Unsure}
-use Rattle.rules.specs.Record.{OPS₁, localMode, commands, bitRisen, idle, freshStatus, noOutput, fresh, withMode, withPositions, withCommand, withFlags, withPrevious, withStatus, ownOutput}
-use Rattle.rules.specs.Steps.{flags1, status1, isSure, positionRead, flags2, pretended, status2, running, step3, confirms, confirmed, overdue, status4, timeUp, drops, step4, flag0, flag1, putFlag, status5, modeAsked, anyOf, reserveAllowed, modeAllowed, modeChanges, status6, flags7, status7, candidate, firstOf, chosen, issues, issued, flags9, turnsToWork, issueStatus, raised, output9, issue, step9, status10, stepsTo6, step, reading}
-use Rattle.rules.specs.Refusals.{settingsInRange, statusInRange, outputInRange, inRange, periodOk, wordOk, SumsFit, oneRefusal, oneAfter, Input, scans}
+use Rattle.rules.specs.Record.{OPS₁, commands, idle, ownOutput, overdueFlag, freshStatus, dropped, fresh, withMode, withPositions, withCommand, withFlags, withPrevious, withStatus}
+use Rattle.rules.specs.Steps.{flags1, status1, positionRead, flags2, pretended, status2, running, step3, confirmed, overdue, ended, end4, flags4, status4, timeUp, pulseOver, drops, step4, putFlag, status5, modeAsked, status6, flags7, status7, chosen, firstOf, issued, flags9, issueStatus, raised, withoutOpposite, output9, issue, step9, status10, steps1to6, step}
+use Rattle.rules.specs.Refusals.{settingsInRange, statusInRange, outputInRange, inRange, periodOk, wordOk, oneRefusal, oneAfter}
+use Rattle.rules.specs.Scans.{Input, scans, SumsFit}
 
 -- ---- a choice has what both of its arms have
 
@@ -100,7 +101,7 @@ keeps2 s v word f =
     (under _ (set 2 (lit< tt) (f .flags)) (under _ (set 3 (lit< tt) (f .flags)) (f .flags)))
 
 keeps4 : (s : Settings) (v : Status) (word : ℕ) (up : Bool) → Fits v → Fits (status4 s v word up)
-unfolding status4
+unfolding status4 end4 flags4 overdueFlag
 keeps4 s v word up f =
     with-flags (with-command f (under _ (lit< tt) (f .command)) (under _ (lit< tt) (under _ (lit< tt) (f .end))))
     (under _ (let c = f .command in set (6 + v .command) (omega arith) (f .flags)) (f .flags))
@@ -109,28 +110,9 @@ keeps5 : (s : Settings) (v : Status) (word : ℕ) → Fits v → Fits (status5 s
 unfolding status5
 keeps5 s v word f = with-flags f (put 1 _ (lit< tt) (put 0 _ (lit< tt) (f .flags)))
 
--- a mode that is allowed is one of the three
-allowed : (s : Settings) (v : Status) (k : ℕ) → modeAllowed s v k ≡ true → k < 3
-unfolding modeAllowed
-allowed s v k h = go (eqb (v .position) 1) (reserveAllowed s v) (eqb k 2) refl (eqb k 0) refl (eqb k 1) refl h
-  where
-    go : (p q : Bool) (a : Bool) → eqb k 2 ≡ a → (b : Bool) → eqb k 0 ≡ b → (c : Bool) → eqb k 1 ≡ c → (a || b && p || c && p && q) ≡ true → k < 3
-    go p q true e b d c g h = let x = eqb-true k 2 e in omega arith
-    go p q false e true d c g h = let x = eqb-true k 0 d in omega arith
-    go p q false e false d true g h = let x = eqb-true k 1 g in omega arith
-    go p q false e false d false g h = absurd (false≢true h)
-
-changed : (a b c d : Bool) (k : ℕ) → (d ≡ true → k < 3) → {x : ℕ} → x < 3 → (if a && b && c && d then k else x) < 3
-unfolding if_then_else_
-changed true true true true k h l = h refl
-changed true true true false k h l = l
-changed true true false d k h l = l
-changed true false c d k h l = l
-changed false b c d k h l = l
-
 keeps6 : (s : Settings) (v : Status) (word : ℕ) → Fits v → Fits (status6 s v word)
-unfolding status6 modeChanges
-keeps6 s v word f = with-mode f (changed (not (localMode word)) (idle v) (not (anyOf (bitRisen v word) commands)) (modeAllowed s v (modeAsked v word)) (modeAsked v word) (allowed s v (modeAsked v word)) (f .mode))
+unfolding status6 modeAsked
+keeps6 s v word f = with-mode f (under _ (under _ (lit< tt) (under _ (lit< tt) (lit< tt))) (f .mode))
 
 keeps7 : (s : Settings) (v : Status) (word : ℕ) → Fits v → Fits (status7 s v word)
 unfolding status7 flags7
@@ -194,21 +176,21 @@ record OutputFits (o : Output) : Type 0 where
 
 pulse-kept : (running late done : Bool) (state sum period u : ℕ) → state < 3 → sum < 600000 → u ≤ 600000
     → OutputFits
-    (if running && (leb u (if running then sum + period else sum) || late || done) then noOutput
+    (if running && (leb u (if running then sum + period else sum) || late || done) then dropped
     else record { state = state; sum = if running then sum + period else sum })
-unfolding if_then_else_ noOutput
+unfolding if_then_else_ dropped
 pulse-kept false late done state sum period u g h l = record { state = g; sum = h }
 pulse-kept true late done state sum period u g h l = go (leb u (sum + period)) refl late done
   where
     go : (b : Bool) → leb u (sum + period) ≡ b → (late done : Bool)
-        → OutputFits (if b || late || done then noOutput else record { state = state; sum = sum + period })
+        → OutputFits (if b || late || done then dropped else record { state = state; sum = sum + period })
     go true e late done = record { state = lit< tt; sum = lit< tt }
     go false e true done = record { state = lit< tt; sum = lit< tt }
     go false e false true = record { state = lit< tt; sum = lit< tt }
     go false e false false = let x = leb-false u (sum + period) e in record { state = g; sum = omega arith }
 
 keeps34 : (m : Motor) (word period : ℕ) → RecordFits m → RecordFits (step4 (step3 m period) word)
-unfolding step4 step3 timeUp confirmed overdue drops running
+unfolding step4 step3 timeUp ended confirmed overdue drops pulseOver running
 keeps34 m word period f =
     let t = f .settings in
     let late = overdue (m .settings) (m .status) word (timeUp (step3 m period)) && eqb (m .output .state) (ownOutput (m .status .command)) in
@@ -225,7 +207,7 @@ keeps34 m word period f =
     }
 
 output-kept : (s : Settings) (o : Output) (c : ℕ) → OutputFits o → OutputFits (output9 s o c)
-unfolding output9 noOutput ownOutput
+unfolding output9 raised withoutOpposite dropped ownOutput
 output-kept s o c f =
     either OutputFits _ (record { state = under _ (lit< tt) (lit< tt); sum = lit< tt }) (either OutputFits _ (record { state = lit< tt; sum = lit< tt }) f)
 
@@ -243,7 +225,7 @@ keeps9 m c h f =
     })
 
 keeps : (m : Motor) (word period : ℕ) → word < 131072 → RecordFits m → RecordFits (step m word period)
-unfolding step stepsTo6
+unfolding step steps1to6
 keeps m word period h f =
     let s = m .settings in
     let f₄ = keeps34 _ word period (with-status f (keeps2 s _ word (keeps1 (m .status) word (f .status)))) in
@@ -378,7 +360,7 @@ scan-in-range m word period h = go (eqb (oneRefusal m word period) 0) refl
     go false e = h
 
 pub fresh-in-range : (s : Settings) → settingsInRange s ≡ true → inRange (fresh s) ≡ true
-unfolding inRange fresh freshStatus noOutput statusInRange outputInRange
+unfolding inRange fresh freshStatus dropped statusInRange outputInRange
 fresh-in-range s h = simp h
 
 pub scans-in-range : (m : Motor) (is : List Input) → inRange m ≡ true → inRange (scans m is) ≡ true

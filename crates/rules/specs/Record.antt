@@ -1,6 +1,7 @@
 -- A motor's settings, input word, commands and record: the paper's sections "A motor's settings and input" and "The record".
--- All numbers are decimal, times are milliseconds.
-use Prim.Native.Nat.{ℕ}
+-- All numbers are decimal, times are milliseconds. Letters: s settings, v status, o output, m record, c a command's number.
+-- `x .f` is field f of x; `&&` is and, `||` or, `&&` binds before `||`; `eqb a b` is a = b, `leb a b` is a ≤ b, `ltb a b` is a < b.
+use Prim.Native.Nat.{ℕ, _+_}
 use mathlib.Core.Bool.{Bool, _||_}
 use mathlib.Core.List.{List, [], _∷_}
 use lib.Dec.{eqb}
@@ -17,13 +18,17 @@ OPS₁ s k = isSet k (s .ops1)
 unfoldable pub OPS₂ : Settings → ℕ → Bool
 OPS₂ s k = isSet k (s .ops2)
 
--- The input word: local mode (MU), the two switches, no supply, the two forbids and Reset. Bits 9 to 11 ask for a mode (step 6), the
--- rest are commands (below).
+-- Bit k of the input word is the source's X(k+4): 0 emergency off (SMA), 1 local mode (MU), 2 MU on, 3 MU off, 4 On switch, 5 Off switch,
+-- 6 no supply, 7 logic task (LZ) on, 8 LZ off, 9 operator (KO) Repair, 10 KO Reserve, 11 KO Work, 12 KO on, 13 KO off, 14 forbid on,
+-- 15 forbid off; bit 16 is Reset (X22). Bits 9 to 11 ask for a mode (step 6); the bits of the commands are `inputBit`; the others:
 unfoldable pub localMode : ℕ → Bool
 localMode word = isSet 1 word
 
 unfoldable pub onSwitch : ℕ → Bool
 onSwitch word = isSet 4 word
+
+unfoldable pub offSwitch : ℕ → Bool
+offSwitch word = isSet 5 word
 
 unfoldable pub noSupply : ℕ → Bool
 noSupply word = isSet 6 word
@@ -128,7 +133,7 @@ isMU c = eqb c MU-off || eqb c MU-on
 unfoldable pub isKO : ℕ → Bool
 isKO c = eqb c KO-off || eqb c KO-on
 
--- The output of a command, and the other one
+-- The output of a command, and the other one (neither is asked for without a command)
 unfoldable pub ownOutput : ℕ → ℕ
 ownOutput c = if isOn c then output-on else output-off
 
@@ -147,32 +152,36 @@ inputBit c =
     else if eqb c KO-on then 12
     else 32
 
--- Flag k
+-- Flag k: 0 no supply, 1 switch fault, 2 and 3 unsanctioned on and off, 4 on by LZ, 5 off by LZ, 6 off by SMA, 6+c command c overdue
 unfoldable pub flag : Status → ℕ → Bool
 flag v k = isSet k (v .flags)
 
+unfoldable pub overdueFlag : ℕ → ℕ
+overdueFlag c = 6 + c
+
 -- Rising: bit k is 1 now and was 0 in the last accepted scan
-unfoldable pub risen : Status → ℕ → ℕ → Bool
-risen v word k = rose k word (v .previous)
+unfoldable pub bitRisen : Status → ℕ → ℕ → Bool
+bitRisen v word k = rose k word (v .previous)
 
 -- A command's input bit has risen
-unfoldable pub bitRisen : Status → ℕ → ℕ → Bool
-bitRisen v word c = risen v word (inputBit c)
+unfoldable pub commandRisen : Status → ℕ → ℕ → Bool
+commandRisen v word c = bitRisen v word (inputBit c)
 
 -- No command is under way
 unfoldable pub idle : Status → Bool
 idle v = eqb (v .command) no-command
+
+-- An output that drops leaves output and pulse sum 0
+unfoldable pub dropped : Output
+dropped = record { state = no-output; sum = 0 }
 
 -- A fresh record is Work, all else 0
 unfoldable pub freshStatus : Status
 freshStatus =
     record { mode = work; sure = unsure; position = unsure; command = no-command; end = no-end; flags = 0; previous = 0 }
 
-unfoldable pub noOutput : Output
-noOutput = record { state = no-output; sum = 0 }
-
 unfoldable pub fresh : Settings → Motor
-fresh s = record { settings = s; status = freshStatus; sum = 0; output = noOutput }
+fresh s = record { settings = s; status = freshStatus; sum = 0; output = dropped }
 
 -- A status, and a record, with some fields changed
 unfoldable pub withMode : Status → ℕ → Status

@@ -1,6 +1,6 @@
 -- The limits, and the order of refusals of a scan: the paper's "Refused because of the input", "Refused because of the state" and
 -- "Order", as far as they concern a scan. 0 is an accepted scan.
-use Prim.Native.Nat.{ℕ, _<_, _≤_}
+use Prim.Native.Nat.{ℕ}
 use mathlib.Core.Bool.{Bool, true, false, not, _&&_}
 use mathlib.Core.List.{List, [], _∷_}
 use lib.Dec.{eqb, leb}
@@ -12,33 +12,46 @@ use Rattle.rules.specs.declared.Output.{Output}
 use Rattle.rules.specs.declared.Motor.{Motor}
 use Rattle.rules.specs.Steps.{step}
 
+-- The limits.
+abbrev pub mostTime : ℕ
+mostTime = 600000
+
+abbrev pub mostSum : ℕ
+mostSum = 599999
+
+abbrev pub mostFlags : ℕ
+mostFlags = 16383
+
+abbrev pub mostWord : ℕ
+mostWord = 131071
+
+abbrev pub mostPeriod : ℕ
+mostPeriod = 10000
+
+abbrev pub mostMotors : ℕ
+mostMotors = 32
+
 -- Every field of a record is in its range, its settings included.
 unfoldable pub settingsInRange : Settings → Bool
-settingsInRange s = leb (s .ops1) 65535 && leb (s .ops2) 31 && leb (s .w) 600000 && leb (s .u) 600000
+settingsInRange s = leb (s .ops1) 65535 && leb (s .ops2) 31 && leb (s .w) mostTime && leb (s .u) mostTime
 
 unfoldable pub statusInRange : Status → Bool
 statusInRange v =
-    leb (v .mode) 2 && leb (v .sure) 2 && leb (v .position) 2 && leb (v .command) 7 && leb (v .end) 3 && leb (v .flags) 16383
-    && leb (v .previous) 131071
+    leb (v .mode) 2 && leb (v .sure) 2 && leb (v .position) 2 && leb (v .command) 7 && leb (v .end) 3 && leb (v .flags) mostFlags
+    && leb (v .previous) mostWord
 
 unfoldable pub outputInRange : Output → Bool
-outputInRange o = leb (o .state) 2 && leb (o .sum) 599999
+outputInRange o = leb (o .state) 2 && leb (o .sum) mostSum
 
 unfoldable pub inRange : Motor → Bool
-inRange m = settingsInRange (m .settings) && statusInRange (m .status) && leb (m .sum) 599999 && outputInRange (m .output)
+inRange m = settingsInRange (m .settings) && statusInRange (m .status) && leb (m .sum) mostSum && outputInRange (m .output)
 
 -- A period is 1 to 10,000, an input word at most 131,071.
 unfoldable pub periodOk : ℕ → Bool
-periodOk period = leb 1 period && leb period 10000
+periodOk period = leb 1 period && leb period mostPeriod
 
 unfoldable pub wordOk : ℕ → Bool
-wordOk word = leb word 131071
-
--- What step 3 adds up fits a 32-bit word; it holds of every accepted scan.
-pub record SumsFit (m : Motor) (period : ℕ) : Type 0 where
-  pub sum : m .sum < 600000
-  pub pulse : m .output .sum < 600000
-  pub time : period ≤ 10000
+wordOk word = leb word mostWord
 
 -- A scan of a single motor: 6, 2, 3; refused, it leaves the record as it was.
 unfoldable pub oneRefusal : Motor → ℕ → ℕ → ℕ
@@ -49,9 +62,6 @@ oneAfter m word period = if eqb (oneRefusal m word period) 0 then step m word pe
 
 -- A table scan: 1, 6, 2, 3, over the whole table before anything is written; refused, it leaves the table as it was. Accepted, it
 -- scans every motor, each from its own record, its own word and the period alone.
-abbrev pub mostMotors : ℕ
-mostMotors = 32
-
 unfoldable pub allOk {ℓ} : {A : Type ℓ} → (A → Bool) → List A → Bool
 allOk test [] = true
 allOk test (x ∷ xs) = test x && allOk test xs
@@ -67,6 +77,7 @@ tableRefusal ms words period =
     else if not (allOk wordOk words) then 3
     else 0
 
+-- (in an accepted scan there is a word for each motor)
 unfoldable pub stepAll : List Motor → List ℕ → ℕ → List Motor
 stepAll [] words period = []
 stepAll (m ∷ ms) [] period = m ∷ ms
@@ -74,12 +85,3 @@ stepAll (m ∷ ms) (word ∷ words) period = step m word period ∷ stepAll ms w
 
 unfoldable pub tableAfter : List Motor → List ℕ → ℕ → List Motor
 tableAfter ms words period = if eqb (tableRefusal ms words period) 0 then stepAll ms words period else ms
-
--- A motor taken through scans of its own, each with a word and a period
-pub record Input : Type 0 where
-  pub word : ℕ
-  pub period : ℕ
-
-unfoldable pub scans : Motor → List Input → Motor
-scans m [] = m
-scans m (i ∷ is) = scans (oneAfter m (i .word) (i .period)) is

@@ -1,18 +1,19 @@
--- One scan of one motor: the paper's "One scan, in this order", a definition a step. Steps 1, 2, 5 to 8 and 10 go by the settings, the
--- status and the input word alone, and so does what steps 4 and 9 do to the status: the book of commands shares them (it has no sums and
--- no output, so it hands step 4 its own answer to whether the time is up).
+-- One scan of one motor: the paper's "One scan, in this order", a definition a step (letters and signs: see Record.antt). `statusN` and
+-- `flagsN` are the status and the flags that step N leaves.
+-- Steps 1, 2, 5 to 8 and 10 go by the settings, the status and the input word alone, and so does what steps 4 and 9 do to the status: the
+-- book of commands shares them. It has no sums and no output, so it hands step 4 its own answer to whether the time is up.
 use Prim.Native.Nat.{ℕ, _+_}
 use mathlib.Core.Bool.{Bool, true, false, not, _&&_, _||_}
 use mathlib.Core.List.{List, [], _∷_}
 use lib.Dec.{eqb, leb, ltb}
-use Rattle.words.specs.Word.{if_then_else_, bitOf, withBit, withoutBit, withoutBits}
+use Rattle.words.specs.Word.{if_then_else_, withBit, withoutBit, withoutBits}
 use Rattle.rules.specs.declared.Settings.{Settings}
 use Rattle.rules.specs.declared.Status.{Status}
 use Rattle.rules.specs.declared.Output.{Output}
 use Rattle.rules.specs.declared.Motor.{Motor}
 use Rattle.rules.specs.declared.Reading.{Reading}
 use Rattle.rules.specs.declared.Reading.the-variants.{Off, On, Unsure}
-use Rattle.rules.specs.Record.{OPS₁, OPS₂, localMode, onSwitch, noSupply, forbidOn, forbidOff, reset, repair, reserve, work, unsure, off, on, no-end, end-confirmed, end-displaced, end-overdue, no-output, no-command, commands, SMA-off, LZ-off, LZ-on, KO-off, KO-on, isMU, isKO, isOn, isOff, direction, ownOutput, oppositeOutput, flag, risen, bitRisen, idle, noOutput, withMode, withPositions, withCommand, withFlags, withPrevious, withStatus}
+use Rattle.rules.specs.Record.{OPS₁, OPS₂, localMode, onSwitch, offSwitch, noSupply, forbidOn, forbidOff, reset, repair, reserve, work, unsure, off, on, no-end, end-confirmed, end-displaced, end-overdue, no-output, no-command, commands, SMA-off, LZ-off, LZ-on, KO-off, KO-on, isMU, isKO, isOn, isOff, direction, ownOutput, oppositeOutput, flag, overdueFlag, bitRisen, commandRisen, idle, dropped, withMode, withPositions, withCommand, withFlags, withPrevious, withStatus}
 
 -- Step 1. End becomes 0. Reset clears flags 2 to 13.
 unfoldable pub flags1 : Status → ℕ → ℕ
@@ -21,32 +22,33 @@ flags1 v word = if reset word then withoutBits 2 12 (v .flags) else v .flags
 unfoldable pub status1 : Status → ℕ → Status
 status1 v word = withFlags (withCommand v (v .command) no-end) (flags1 v word)
 
--- Step 2. What the switches read. OPS_1 bit 0 = 0: On switch 1 means On, 0 means Off, always sure. Bit 0 = 1: sure if the two differ.
-unfoldable pub readsSurely : Settings → ℕ → Bool
-readsSurely s word = not (OPS₁ s 0) || not (eqb (bitOf 4 word) (bitOf 5 word))
+-- Step 2. OPS_1 bit 0 = 0: On switch 1 means On, 0 means Off, always sure. Bit 0 = 1: sure if the two switches differ.
+unfoldable pub readOnSwitch : ℕ → Reading
+readOnSwitch word = if onSwitch word then On else Off
 
-unfoldable pub readOne : ℕ → Reading
-readOne word = if onSwitch word then On else Off
+unfoldable pub readSwitches : ℕ → Reading
+readSwitches word =
+    if onSwitch word && not (offSwitch word) then On else if offSwitch word && not (onSwitch word) then Off else Unsure
 
 unfoldable pub reading : Settings → ℕ → Reading
-reading s word = if readsSurely s word then readOne word else Unsure
+reading s word = if OPS₁ s 0 then readSwitches word else readOnSwitch word
 
-unfoldable pub isSure : Reading → Bool
-isSure Off = true
-isSure On = true
-isSure Unsure = false
-
+-- the position that is read; Unsure gives none
 unfoldable pub positionRead : Reading → ℕ
 positionRead Off = off
 positionRead On = on
 positionRead Unsure = unsure
 
--- A sure change between Off and On from the last sure position, with no command under way, sets flag 2 (to On) or 3 (to Off).
+unfoldable pub isSure : Reading → Bool
+isSure r = not (eqb (positionRead r) unsure)
+
+-- A sure change between Off and On from the last sure position, with no command under way as the scan began (steps 1 and 2 leave the
+-- command alone), sets flag 2, to On, or 3, to Off.
 unfoldable pub flags2 : Settings → Status → ℕ → ℕ
 flags2 s v word =
-    let r = positionRead (reading s word) in
-    if idle v && eqb (v .sure) off && eqb r on then withBit 2 (v .flags)
-    else if idle v && eqb (v .sure) on && eqb r off then withBit 3 (v .flags)
+    let read = positionRead (reading s word) in
+    if idle v && eqb (v .sure) off && eqb read on then withBit 2 (v .flags)
+    else if idle v && eqb (v .sure) on && eqb read off then withBit 3 (v .flags)
     else v .flags
 
 -- Unsure: position 0 if OPS_2 bit 2 = 0; else the last sure position if bit 3 = 0; else Off or On as bit 4 is 0 or 1.
@@ -61,13 +63,13 @@ status2 s v word =
     (withPositions v (if isSure r then positionRead r else v .sure) (if isSure r then positionRead r else pretended s (v .sure)))
     (flags2 s v word)
 
--- Step 3. The period is added to the sum of a command under way and of a running pulse.
--- An output is a running pulse if OPS_1 bit 6 = 1 and U > 0.
-unfoldable pub pulsed : Settings → Bool
-pulsed s = OPS₁ s 6 && ltb 0 (s .u)
+-- Step 3. The period is added to the sum of a command under way and of a running pulse; an idle sum stays.
+-- An output is a running pulse if there is one, OPS_1 bit 6 = 1 and U > 0.
+unfoldable pub outputsArePulses : Settings → Bool
+outputsArePulses s = OPS₁ s 6 && ltb 0 (s .u)
 
 unfoldable pub running : Settings → Output → Bool
-running s o = not (eqb (o .state) no-output) && pulsed s
+running s o = not (eqb (o .state) no-output) && outputsArePulses s
 
 unfoldable pub step3 : Motor → ℕ → Motor
 step3 m period =
@@ -83,7 +85,7 @@ step3 m period =
     }
 
 -- Step 4. Command under way: a sure reading of its direction ends it, confirmed. Otherwise, if its sum is at least W (`up`), it ends
--- overdue and its flag, 6 + its number, is set.
+-- overdue and its flag is set.
 unfoldable pub confirms : Reading → ℕ → Bool
 confirms r c = isSure r && eqb (positionRead r) (direction c)
 
@@ -93,64 +95,72 @@ confirmed s v word = not (idle v) && confirms (reading s word) (v .command)
 unfoldable pub overdue : Settings → Status → ℕ → Bool → Bool
 overdue s v word up = not (idle v) && not (confirms (reading s word) (v .command)) && up
 
+unfoldable pub ended : Settings → Status → ℕ → Bool → Bool
+ended s v word up = confirmed s v word || overdue s v word up
+
+-- the end that this gives
+unfoldable pub end4 : Settings → Status → ℕ → Bool → ℕ
+end4 s v word up = if confirmed s v word then end-confirmed else if overdue s v word up then end-overdue else v .end
+
+unfoldable pub flags4 : Settings → Status → ℕ → Bool → ℕ
+flags4 s v word up = if overdue s v word up then withBit (overdueFlag (v .command)) (v .flags) else v .flags
+
 unfoldable pub status4 : Settings → Status → ℕ → Bool → Status
 status4 s v word up =
-    let done = confirmed s v word in
-    let late = overdue s v word up in
-    withFlags
-    (withCommand v (if done || late then no-command else v .command) (if done then end-confirmed else if late then end-overdue else v .end))
-    (if late then withBit (6 + v .command) (v .flags) else v .flags)
+    withFlags (withCommand v (if ended s v word up then no-command else v .command) (end4 s v word up)) (flags4 s v word up)
 
 unfoldable pub timeUp : Motor → Bool
 timeUp m = leb (m .settings .w) (m .sum)
 
 -- A pulse drops when its sum is at least U, or a command of its direction is overdue now, or any command is confirmed now with OPS_1 bit
--- 7 = 1. A held output stays.
+-- 7 = 1. (A held output stays.)
+unfoldable pub pulseOver : Settings → Output → Bool
+pulseOver s o = leb (s .u) (o .sum)
+
 unfoldable pub drops : Motor → ℕ → Bool
 drops m word =
     let s = m .settings in
     let v = m .status in
     let o = m .output in
     running s o
-    && (leb (s .u) (o .sum) || overdue s v word (timeUp m) && eqb (o .state) (ownOutput (v .command)) || confirmed s v word && OPS₁ s 7)
+    && (pulseOver s o || overdue s v word (timeUp m) && eqb (o .state) (ownOutput (v .command)) || confirmed s v word && OPS₁ s 7)
 
 unfoldable pub step4 : Motor → ℕ → Motor
 step4 m word =
-    let ended = confirmed (m .settings) (m .status) word || overdue (m .settings) (m .status) word (timeUp m) in
     record {
       settings = m .settings;
       status = status4 (m .settings) (m .status) word (timeUp m);
-      sum = if ended then 0 else m .sum;
-      output = if drops m word then noOutput else m .output;
+      sum = if ended (m .settings) (m .status) word (timeUp m) then 0 else m .sum;
+      output = if drops m word then dropped else m .output;
     }
 
 -- Step 5. Flags 0 and 1 are formed if OPS_2 bit 1 = 1, or bit 1 of the word = 0, or OPS_1 bit 2 = 1; otherwise both are 0.
-unfoldable pub formed : Settings → ℕ → Bool
-formed s word = OPS₂ s 1 || not (localMode word) || OPS₁ s 2
+unfoldable pub faultsFormed : Settings → ℕ → Bool
+faultsFormed s word = OPS₂ s 1 || not (localMode word) || OPS₁ s 2
 
 -- Flag 0: no-supply input and OPS_1 bit 1. Flag 1: unsure and no command under way.
-unfoldable pub flag0 : Settings → ℕ → Bool
-flag0 s word = formed s word && noSupply word && OPS₁ s 1
+unfoldable pub supplyFault : Settings → ℕ → Bool
+supplyFault s word = faultsFormed s word && noSupply word && OPS₁ s 1
 
-unfoldable pub flag1 : Settings → Status → ℕ → Bool
-flag1 s v word = formed s word && not (isSure (reading s word)) && idle v
+unfoldable pub switchFault : Settings → Status → ℕ → Bool
+switchFault s v word = faultsFormed s word && not (isSure (reading s word)) && idle v
 
 -- a flag put to a value
 unfoldable pub putFlag : ℕ → Bool → ℕ → ℕ
 putFlag k b flags = if b then withBit k flags else withoutBit k flags
 
 unfoldable pub status5 : Settings → Status → ℕ → Status
-status5 s v word = withFlags v (putFlag 1 (flag1 s v word) (putFlag 0 (flag0 s word) (v .flags)))
+status5 s v word = withFlags v (putFlag 1 (switchFault s v word) (putFlag 0 (supplyFault s word) (v .flags)))
 
 -- Step 6. Mode changes only outside local mode, if exactly one of bits 9 to 11 has risen, no command is under way and no switching
 -- command's bit has risen.
 unfoldable pub modesRisen : Status → ℕ → ℕ
-modesRisen v word = (if risen v word 9 then 1 else 0) + (if risen v word 10 then 1 else 0) + (if risen v word 11 then 1 else 0)
+modesRisen v word =
+    (if bitRisen v word 9 then 1 else 0) + (if bitRisen v word 10 then 1 else 0) + (if bitRisen v word 11 then 1 else 0)
 
--- the mode that they ask for; 3 is none
+-- the mode that this one bit asks for
 unfoldable pub modeAsked : Status → ℕ → ℕ
-modeAsked v word =
-    if eqb (modesRisen v word) 1 then (if risen v word 9 then repair else if risen v word 10 then reserve else work) else 3
+modeAsked v word = if bitRisen v word 9 then repair else if bitRisen v word 10 then reserve else work
 
 unfoldable pub anyOf : (ℕ → Bool) → List ℕ → Bool
 anyOf test [] = false
@@ -161,12 +171,12 @@ unfoldable pub reserveAllowed : Settings → Status → Bool
 reserveAllowed s v = (not (flag v 1) || OPS₁ s 13) && (not (flag v 0) || OPS₁ s 14)
 
 unfoldable pub modeAllowed : Settings → Status → ℕ → Bool
-modeAllowed s v mode =
-    eqb mode work || eqb mode repair && eqb (v .position) off || eqb mode reserve && eqb (v .position) off && reserveAllowed s v
+modeAllowed s v mode = (eqb mode work || eqb (v .position) off) && (not (eqb mode reserve) || reserveAllowed s v)
 
 unfoldable pub modeChanges : Settings → Status → ℕ → Bool
 modeChanges s v word =
-    not (localMode word) && idle v && not (anyOf (bitRisen v word) commands) && modeAllowed s v (modeAsked v word)
+    not (localMode word) && eqb (modesRisen v word) 1 && idle v && not (anyOf (commandRisen v word) commands)
+    && modeAllowed s v (modeAsked v word)
 
 unfoldable pub status6 : Settings → Status → ℕ → Status
 status6 s v word = withMode v (if modeChanges s v word then modeAsked v word else v .mode)
@@ -174,10 +184,10 @@ status6 s v word = withMode v (if modeChanges s v word then modeAsked v word els
 -- Step 7. Acknowledging, outside local mode: KO off risen, OPS_1 bit 15 and flag 5 or 6 set: both clear. KO on risen, OPS_2 bit 0 and
 -- flag 4 set: it clears.
 unfoldable pub acknowledgesOff : Settings → Status → ℕ → Bool
-acknowledgesOff s v word = not (localMode word) && bitRisen v word KO-off && OPS₁ s 15 && (flag v 5 || flag v 6)
+acknowledgesOff s v word = not (localMode word) && commandRisen v word KO-off && OPS₁ s 15 && (flag v 5 || flag v 6)
 
 unfoldable pub acknowledgesOn : Settings → Status → ℕ → Bool
-acknowledgesOn s v word = not (localMode word) && bitRisen v word KO-on && OPS₂ s 0 && flag v 4
+acknowledgesOn s v word = not (localMode word) && commandRisen v word KO-on && OPS₂ s 0 && flag v 4
 
 unfoldable pub flags7 : Settings → Status → ℕ → ℕ
 flags7 s v word =
@@ -187,22 +197,32 @@ flags7 s v word =
 unfoldable pub status7 : Settings → Status → ℕ → Status
 status7 s v word = withFlags v (flags7 s v word)
 
--- Step 8, of the status as step 6 left it: step 7 takes from it only flags 4 to 6, which are not asked for here.
--- Candidates are the risen commands; a rise that acknowledged is no command.
-unfoldable pub ordered : Settings → Status → ℕ → ℕ → Bool
-ordered s v word c =
-    bitRisen v word c && not (eqb c KO-off && acknowledgesOff s v word) && not (eqb c KO-on && acknowledgesOn s v word)
+-- That rise is then no command.
+unfoldable pub acknowledges : Settings → Status → ℕ → ℕ → Bool
+acknowledges s v word c = eqb c KO-off && acknowledgesOff s v word || eqb c KO-on && acknowledgesOn s v word
 
--- KO only outside, MU only in local mode; forbid on bars KO on, and every on command if OPS_1 bit 5; forbid off bars KO off, and every off
--- command but SMA if bit 4; flag 0 bars every on command.
-unfoldable pub barred : Settings → Status → ℕ → ℕ → Bool
-barred s v word c =
-    isKO c && localMode word || isMU c && not (localMode word) || forbidOn word && (eqb c KO-on || isOn c && OPS₁ s 5)
-    || forbidOff word && (eqb c KO-off || isOff c && not (eqb c SMA-off) && OPS₁ s 4) || flag v 0 && isOn c
+-- Step 8 reads the status as step 6 left it: whether a rise acknowledged is seen by flags 4 to 6 as they stood before step 7 cleared them.
+-- All else that it reads (mode, position, command, flag 0, previous word) step 7 leaves alone.
+-- KO only outside, MU only in local mode.
+unfoldable pub wrongPlace : ℕ → ℕ → Bool
+wrongPlace word c = isKO c && localMode word || isMU c && not (localMode word)
 
--- None in Repair.
+-- Forbid on bars KO on, and every on command if OPS_1 bit 5.
+unfoldable pub onForbidden : Settings → ℕ → ℕ → Bool
+onForbidden s word c = forbidOn word && (eqb c KO-on || isOn c && OPS₁ s 5)
+
+-- Forbid off bars KO off, and every off command but SMA if bit 4.
+unfoldable pub offForbidden : Settings → ℕ → ℕ → Bool
+offForbidden s word c = forbidOff word && (eqb c KO-off || isOff c && not (eqb c SMA-off) && OPS₁ s 4)
+
+-- Flag 0 bars every on command. None in Repair.
+unfoldable pub admitted : Settings → Status → ℕ → ℕ → Bool
+admitted s v word c =
+    not (eqb (v .mode) repair) && not (wrongPlace word c || onForbidden s word c || offForbidden s word c || flag v 0 && isOn c)
+
+-- Candidates are the risen commands, but for these.
 unfoldable pub candidate : Settings → Status → ℕ → ℕ → Bool
-candidate s v word c = ordered s v word c && not (eqb (v .mode) repair) && not (barred s v word c)
+candidate s v word c = commandRisen v word c && not (acknowledges s v word c) && admitted s v word c
 
 -- The candidate with the smallest number is chosen, the rest are lost.
 unfoldable pub firstOf : (ℕ → Bool) → List ℕ → ℕ
@@ -212,22 +232,22 @@ firstOf test (c ∷ cs) = if test c then c else firstOf test cs
 unfoldable pub chosen : Settings → Status → ℕ → ℕ
 chosen s v word = firstOf (candidate s v word) commands
 
--- With no command under way it is issued unless the position is already its own. With one under way, c, it is issued, and displaces it,
--- only if its number is smaller and it has the other direction or is SMA.
-unfoldable pub displaces : ℕ → ℕ → Bool
-displaces k c = not (eqb k no-command) && ltb k c && (not (eqb (direction k) (direction c)) || eqb k SMA-off)
-
+-- With no command under way it is issued unless the position is already its own.
 unfoldable pub starts : ℕ → ℕ → Bool
-starts k position = not (eqb k no-command) && not (eqb position (direction k))
+starts new position = not (eqb new no-command) && not (eqb position (direction new))
+
+-- With one under way, the old one, it is issued, and displaces it, only if its number is smaller and it has the other direction or is SMA.
+unfoldable pub displaces : ℕ → ℕ → Bool
+displaces new old = not (eqb new no-command) && ltb new old && (not (eqb (direction new) (direction old)) || eqb new SMA-off)
 
 unfoldable pub issues : Status → ℕ → Bool
-issues v k = if idle v then starts k (v .position) else displaces k (v .command)
+issues v new = if idle v then starts new (v .position) else displaces new (v .command)
 
--- the command that is issued; 0 is none
+-- the command that is issued, if any
 unfoldable pub issued : Settings → Status → ℕ → ℕ
 issued s v word = if issues v (chosen s v word) then chosen s v word else no-command
 
--- Step 9. Issuing c. An on command clears flags 5 and 6, an off command flag 4. LZ on, LZ off and SMA set flags 4, 5, 6.
+-- Step 9. Issuing c: an on command clears flags 5 and 6, an off command flag 4. LZ on, LZ off and SMA set flags 4, 5, 6.
 unfoldable pub flags9 : ℕ → ℕ → ℕ
 flags9 c flags =
     let f = if isOn c then withoutBits 5 2 flags else withoutBit 4 flags in
@@ -249,13 +269,19 @@ unfoldable pub status9 : Settings → Status → ℕ → Status
 status9 s v c = if eqb c no-command then v else issueStatus s v c
 
 -- The command's own output is raised unless it is SMA with OPS_1 bit 12 = 0, MU with bit 2 = 0, or off with bit 6 = 0.
-unfoldable pub raised : Settings → ℕ → Bool
-raised s c = not (eqb c SMA-off && not (OPS₁ s 12) || isMU c && not (OPS₁ s 2) || isOff c && not (OPS₁ s 6))
+unfoldable pub raises : Settings → ℕ → Bool
+raises s c = not (eqb c SMA-off && not (OPS₁ s 12) || isMU c && not (OPS₁ s 2) || isOff c && not (OPS₁ s 6))
 
--- The opposite output drops. The own one, raised, is a pulse with its sum from 0, or held, with sum 0.
+-- It is a pulse, with its sum from 0, if bit 6 = 1 and U > 0, otherwise held, and a held one has sum 0: the sum is 0 either way.
+unfoldable pub raised : ℕ → Output
+raised c = record { state = ownOutput c; sum = 0 }
+
+-- The opposite output drops; any other stays as it is, an idle sum too.
+unfoldable pub withoutOpposite : Output → ℕ → Output
+withoutOpposite o c = if eqb (o .state) (oppositeOutput c) then dropped else o
+
 unfoldable pub output9 : Settings → Output → ℕ → Output
-output9 s o c =
-    if raised s c then record { state = ownOutput c; sum = 0 } else if eqb (o .state) (oppositeOutput c) then noOutput else o
+output9 s o c = if raises s c then raised c else withoutOpposite o c
 
 -- Sum 0.
 unfoldable pub issue : Motor → ℕ → Motor
@@ -276,15 +302,15 @@ status10 v word = withPrevious v word
 
 -- What the ten steps make of the status, as the book of commands takes it too: 1 to 6, where `up` says whether the time of a command
 -- under way is up, and 7 to 10.
-unfoldable pub statusTo6 : Settings → Status → ℕ → Bool → Status
-statusTo6 s v word up = status6 s (status5 s (status4 s (status2 s (status1 v word) word) word up) word) word
+unfoldable pub status1to6 : Settings → Status → ℕ → Bool → Status
+status1to6 s v word up = status6 s (status5 s (status4 s (status2 s (status1 v word) word) word up) word) word
 
-unfoldable pub statusFrom6 : Settings → Status → ℕ → Status
-statusFrom6 s v word = status10 (status9 s (status7 s v word) (issued s v word)) word
+unfoldable pub status7to10 : Settings → Status → ℕ → Status
+status7to10 s v word = status10 (status9 s (status7 s v word) (issued s v word)) word
 
 -- The ten steps on the record.
-unfoldable pub stepsTo6 : Motor → ℕ → ℕ → Motor
-stepsTo6 m word period =
+unfoldable pub steps1to6 : Motor → ℕ → ℕ → Motor
+steps1to6 m word period =
     let s = m .settings in
     let m₂ = withStatus m (status2 s (status1 (m .status) word) word) in
     let m₄ = step4 (step3 m₂ period) word in
@@ -293,6 +319,6 @@ stepsTo6 m word period =
 unfoldable pub step : Motor → ℕ → ℕ → Motor
 step m word period =
     let s = m .settings in
-    let m₆ = stepsTo6 m word period in
+    let m₆ = steps1to6 m word period in
     let m₉ = step9 (withStatus m₆ (status7 s (m₆ .status) word)) (issued s (m₆ .status) word) in
     withStatus m₉ (status10 (m₉ .status) word)

@@ -1,6 +1,6 @@
 // Steps 7 and 8: acknowledging, and the choice among the commands.
 ghost use mathlib.Core.Path.{_≡_};
-ghost use Rattle.rules.specs.Steps.{acknowledgesOff, acknowledgesOn, flags7, status7, ordered, barred, candidate, chosen, displaces, starts, issues, issued};
+ghost use Rattle.rules.specs.Steps.{acknowledgesOff, acknowledgesOn, flags7, status7, acknowledges, wrongPlace, onForbidden, offForbidden, admitted, candidate, chosen, displaces, starts, issues, issued};
 use crate::command::direction_of;
 use crate::command::is_local;
 use crate::command::is_off;
@@ -50,30 +50,45 @@ pub fn acknowledge(s: Settings, v: Status, word: u32) -> Status
     n
 }
 
-// Whether the command c has risen, and its rise acknowledged nothing.
-pub fn is_ordered(s: Settings, v: Status, word: u32, c: u32) -> bool
-    ensures { λ r. ⌜ r ≡ ordered s v word c ⌝ }
+// Whether the rise of c acknowledges, and is no command.
+pub fn is_acknowledging(s: Settings, v: Status, word: u32, c: u32) -> bool
+    ensures { λ r. ⌜ r ≡ acknowledges s v word c ⌝ }
 {
-    let off = (c == 6) & is_off_acknowledged(s, v, word);
-    let on = (c == 7) & is_on_acknowledged(s, v, word);
-    is_risen(v, word, c) & !off & !on
+    (c == 6) & is_off_acknowledged(s, v, word) | (c == 7) & is_on_acknowledged(s, v, word)
 }
 
-pub fn is_barred(s: Settings, v: Status, word: u32, c: u32) -> bool
-    ensures { λ r. ⌜ r ≡ barred s v word c ⌝ }
+// KO only outside, MU only in local mode.
+pub fn is_wrong_place(word: u32, c: u32) -> bool
+    ensures { λ r. ⌜ r ≡ wrongPlace word c ⌝ }
 {
-    let local = has(word, 1);
-    let on = is_on(c);
-    let source = is_operator(c) & local | is_local(c) & !local;
-    let on_barred = has(word, 14) & ((c == 7) | on & has(s.ops1, 5));
-    let off_barred = has(word, 15) & ((c == 6) | is_off(c) & (c != 1) & has(s.ops1, 4));
-    source | on_barred | off_barred | has(v.flags, 0) & on
+    is_operator(c) & has(word, 1) | is_local(c) & !has(word, 1)
+}
+
+pub fn is_on_forbidden(s: Settings, word: u32, c: u32) -> bool
+    ensures { λ r. ⌜ r ≡ onForbidden s word c ⌝ }
+{
+    has(word, 14) & ((c == 7) | is_on(c) & has(s.ops1, 5))
+}
+
+pub fn is_off_forbidden(s: Settings, word: u32, c: u32) -> bool
+    ensures { λ r. ⌜ r ≡ offForbidden s word c ⌝ }
+{
+    has(word, 15) & ((c == 6) | is_off(c) & (c != 1) & has(s.ops1, 4))
+}
+
+pub fn is_admitted(s: Settings, v: Status, word: u32, c: u32) -> bool
+    ensures { λ r. ⌜ r ≡ admitted s v word c ⌝ }
+{
+    let barred = is_wrong_place(word, c)
+        | is_on_forbidden(s, word, c)
+        | is_off_forbidden(s, word, c);
+    (v.mode != 0) & !(barred | has(v.flags, 0) & is_on(c))
 }
 
 pub fn is_candidate(s: Settings, v: Status, word: u32, c: u32) -> bool
     ensures { λ r. ⌜ r ≡ candidate s v word c ⌝ }
 {
-    is_ordered(s, v, word, c) & (v.mode != 0) & !is_barred(s, v, word, c)
+    is_risen(v, word, c) & !is_acknowledging(s, v, word, c) & is_admitted(s, v, word, c)
 }
 
 // The strongest candidate, or 0.
@@ -89,27 +104,27 @@ pub fn choice(s: Settings, v: Status, word: u32) -> u32
     choose(is_candidate(s, v, word, 1), 1, c2)
 }
 
-// Whether the chosen command k displaces c, which is under way.
-pub fn is_displacing(k: u32, c: u32) -> bool
-    ensures { λ r. ⌜ r ≡ displaces k c ⌝ }
+// Whether the chosen command is issued at a position, with none under way.
+pub fn is_starting(new: u32, position: u32) -> bool
+    ensures { λ r. ⌜ r ≡ starts new position ⌝ }
 {
-    (k != 0) & (k < c) & ((direction_of(k) != direction_of(c)) | (k == 1))
+    (new != 0) & (position != direction_of(new))
 }
 
-// Whether the chosen command k is issued at a position, with none under way.
-pub fn is_starting(k: u32, position: u32) -> bool
-    ensures { λ r. ⌜ r ≡ starts k position ⌝ }
+// Whether the chosen command displaces the old one, which is under way.
+pub fn is_displacing(new: u32, old: u32) -> bool
+    ensures { λ r. ⌜ r ≡ displaces new old ⌝ }
 {
-    (k != 0) & (position != direction_of(k))
+    (new != 0) & (new < old) & ((direction_of(new) != direction_of(old)) | (new == 1))
 }
 
-pub fn is_issued(v: Status, k: u32) -> bool
-    ensures { λ r. ⌜ r ≡ issues v k ⌝ }
+pub fn is_issued(v: Status, new: u32) -> bool
+    ensures { λ r. ⌜ r ≡ issues v new ⌝ }
 {
     if v.command == 0 {
-        is_starting(k, v.position)
+        is_starting(new, v.position)
     } else {
-        is_displacing(k, v.command)
+        is_displacing(new, v.command)
     }
 }
 

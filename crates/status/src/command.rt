@@ -1,6 +1,6 @@
 // The seven switching commands, by number: 0 is no command.
 ghost use mathlib.Core.Path.{_≡_};
-ghost use Rattle.rules.specs.Record.{direction, isOn, isOff, isMU, isKO, inputBit, bitRisen};
+ghost use Rattle.rules.specs.Record.{direction, isOn, isOff, isMU, isKO, inputBit, commandRisen};
 use rules::Status;
 use words::has_risen;
 
@@ -49,7 +49,7 @@ pub fn is_operator(c: u32) -> bool
 
 // Whether a command's input bit has risen.
 pub fn is_risen(v: Status, word: u32, c: u32) -> bool
-    ensures { λ r. ⌜ r ≡ bitRisen v word c ⌝ }
+    ensures { λ r. ⌜ r ≡ commandRisen v word c ⌝ }
 {
     has_risen(word, v.previous, input_bit(c))
 }

@@ -1,6 +1,6 @@
 // Step 5: flags 0 (no supply) and 1 (switch fault).
 ghost use mathlib.Core.Path.{_≡_};
-ghost use Rattle.rules.specs.Steps.{formed, flag0, flag1, putFlag, status5};
+ghost use Rattle.rules.specs.Steps.{faultsFormed, supplyFault, switchFault, putFlag, status5};
 use crate::switches::is_sure;
 use crate::switches::read;
 use rules::Settings;
@@ -11,19 +11,19 @@ use words::with_bit;
 use words::without_bit;
 
 pub fn are_formed(s: Settings, word: u32) -> bool
-    ensures { λ r. ⌜ r ≡ formed s word ⌝ }
+    ensures { λ r. ⌜ r ≡ faultsFormed s word ⌝ }
 {
     has(s.ops2, 1) | !has(word, 1) | has(s.ops1, 2)
 }
 
 pub fn lacks_supply(s: Settings, word: u32) -> bool
-    ensures { λ r. ⌜ r ≡ flag0 s word ⌝ }
+    ensures { λ r. ⌜ r ≡ supplyFault s word ⌝ }
 {
     are_formed(s, word) & has(word, 6) & has(s.ops1, 1)
 }
 
 pub fn has_switch_fault(s: Settings, v: Status, word: u32) -> bool
-    ensures { λ r. ⌜ r ≡ flag1 s v word ⌝ }
+    ensures { λ r. ⌜ r ≡ switchFault s v word ⌝ }
 {
     are_formed(s, word) & !is_sure(read(s, word)) & (v.command == 0)
 }

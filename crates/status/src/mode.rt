@@ -1,7 +1,8 @@
 // Step 6: the mode.
 ghost use mathlib.Core.Path.{_≡_};
-ghost use Rattle.rules.specs.Record.{commands, bitRisen};
-ghost use Rattle.rules.specs.Steps.{modeAsked, anyOf, reserveAllowed, modeAllowed, modeChanges, status6};
+ghost use lib.Dec.{eqb};
+ghost use Rattle.rules.specs.Record.{commands, commandRisen};
+ghost use Rattle.rules.specs.Steps.{modesRisen, modeAsked, anyOf, reserveAllowed, modeAllowed, modeChanges, status6};
 use crate::command::is_risen;
 use rules::Settings;
 use rules::Status;
@@ -12,21 +13,27 @@ use words::masked_out;
 // Bits 9 to 11 of the input word.
 const MODE_BITS: u32 = 3584;
 
-// The mode that exactly one risen bit of 9 to 11 asks for, or 3.
+// Bit 11, the last of them.
+const LAST_MODE_BIT: u32 = 2048;
+
+// Whether exactly one of bits 9 to 11 has risen.
+pub fn is_one_mode_risen(v: Status, word: u32) -> bool
+    ensures { λ r. ⌜ r ≡ eqb (modesRisen v word) 1 ⌝ }
+{
+    u32::count_ones(masked_out(word, v.previous) & MODE_BITS) == 1
+}
+
+// The mode that the lowest risen bit of 9 to 11 asks for, or the last one.
 pub fn asked_mode(v: Status, word: u32) -> u32
     ensures { λ r. ⌜ r ≡ modeAsked v word ⌝ }
 {
     let r = masked_out(word, v.previous) & MODE_BITS;
-    if u32::count_ones(r) == 1 {
-        u32::trailing_zeros(r) - 9
-    } else {
-        3
-    }
+    u32::trailing_zeros(r | LAST_MODE_BIT) - 9
 }
 
 // Whether the bit of any switching command has risen.
 pub fn is_any_risen(v: Status, word: u32) -> bool
-    ensures { λ r. ⌜ r ≡ anyOf (bitRisen v word) commands ⌝ }
+    ensures { λ r. ⌜ r ≡ anyOf (commandRisen v word) commands ⌝ }
 {
     let panel = is_risen(v, word, 4)
         | (is_risen(v, word, 5) | (is_risen(v, word, 6) | is_risen(v, word, 7)));
@@ -42,15 +49,15 @@ pub fn is_reserve_allowed(s: Settings, v: Status) -> bool
 pub fn is_mode_allowed(s: Settings, v: Status, mode: u32) -> bool
     ensures { λ r. ⌜ r ≡ modeAllowed s v mode ⌝ }
 {
-    let off = v.position == 1;
-    (mode == 2) | (mode == 0) & off | (mode == 1) & off & is_reserve_allowed(s, v)
+    ((mode == 2) | (v.position == 1)) & ((mode != 1) | is_reserve_allowed(s, v))
 }
 
 pub fn is_mode_changing(s: Settings, v: Status, word: u32) -> bool
     ensures { λ r. ⌜ r ≡ modeChanges s v word ⌝ }
 {
-    let quiet = !is_any_risen(v, word);
-    !has(word, 1) & (v.command == 0) & quiet & is_mode_allowed(s, v, asked_mode(v, word))
+    let one = !has(word, 1) & is_one_mode_risen(v, word);
+    let quiet = one & (v.command == 0) & !is_any_risen(v, word);
+    quiet & is_mode_allowed(s, v, asked_mode(v, word))
 }
 
 pub fn change_mode(s: Settings, v: Status, word: u32) -> Status

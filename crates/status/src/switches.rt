@@ -1,10 +1,11 @@
 // Steps 1 and 2: end and Reset, and the switches.
 ghost use mathlib.Core.Path.{_≡_};
-ghost use Rattle.rules.specs.Steps.{status1, readsSurely, readOne, reading, isSure, positionRead, flags2, pretended, status2};
+ghost use mathlib.Core.Bool.{_&&_, not};
+ghost use Rattle.words.specs.Word.{if_then_else_};
+ghost use Rattle.rules.specs.Steps.{status1, readOnSwitch, readSwitches, reading, isSure, positionRead, flags2, pretended, status2};
 use rules::Reading;
 use rules::Settings;
 use rules::Status;
-use words::bit;
 use words::choose;
 use words::has;
 use words::masked_out;
@@ -24,8 +25,8 @@ pub fn begin(v: Status, word: u32) -> Status
 }
 
 // The reading of the On switch alone.
-pub fn read_one(word: u32) -> Reading
-    ensures { λ r. ⌜ r ≡ readOne word ⌝ }
+pub fn read_on_switch(word: u32) -> Reading
+    ensures { λ r. ⌜ r ≡ readOnSwitch word ⌝ }
 {
     if has(word, 4) {
         Reading::On
@@ -34,33 +35,37 @@ pub fn read_one(word: u32) -> Reading
     }
 }
 
-pub fn reads_surely(s: Settings, word: u32) -> bool
-    ensures { λ r. ⌜ r ≡ readsSurely s word ⌝ }
+// The reading of an On and an Off switch: sure if they differ.
+pub fn read_pair(on: bool, off: bool) -> Reading
+    ensures { λ r. ⌜ r ≡ (if on && not off then Reading.On else if off && not on then Reading.Off else Reading.Unsure) ⌝ }
 {
-    !has(s.ops1, 0) | (bit(word, 4) != bit(word, 5))
+    if on & !off {
+        return Reading::On;
+    }
+    if off & !on {
+        return Reading::Off;
+    }
+    Reading::Unsure
+}
+
+pub fn read_switches(word: u32) -> Reading
+    ensures { λ r. ⌜ r ≡ readSwitches word ⌝ }
+{
+    read_pair(has(word, 4), has(word, 5))
 }
 
 // What the switches read.
 pub fn read(s: Settings, word: u32) -> Reading
     ensures { λ r. ⌜ r ≡ reading s word ⌝ }
 {
-    if reads_surely(s, word) {
-        read_one(word)
+    if has(s.ops1, 0) {
+        read_switches(word)
     } else {
-        Reading::Unsure
+        read_on_switch(word)
     }
 }
 
-pub fn is_sure(r: Reading) -> bool
-    ensures { λ x. ⌜ x ≡ isSure r ⌝ }
-{
-    match r {
-        Reading::Off => true,
-        Reading::On => true,
-        Reading::Unsure => false,
-    }
-}
-
+// The position read: 1 Off, 2 On, 0 if it is unsure.
 pub fn position_read(r: Reading) -> u32
     ensures { λ x. ⌜ x ≡ positionRead r ⌝ }
 {
@@ -69,6 +74,12 @@ pub fn position_read(r: Reading) -> u32
         Reading::On => 2,
         Reading::Unsure => 0,
     }
+}
+
+pub fn is_sure(r: Reading) -> bool
+    ensures { λ x. ⌜ x ≡ isSure r ⌝ }
+{
+    position_read(r) != 0
 }
 
 // The flags after a change of position that no command asked for.

@@ -1,5 +1,5 @@
 use Rattle.rules.specs.Record.{withStatus}
-use Rattle.rules.specs.Steps.{stepsTo6}
+use Rattle.rules.specs.Steps.{steps1to6}
 use borrow.Author.Needs.{needs}
 use Rattle.motor.proofs.steps.first_steps.Statement.{statement}
 use Rattle.motor.proofs.steps.first_steps.Tie as tie
@@ -9,7 +9,7 @@ unfolding withStatus
 add-period-requires c κs = let f = c .before .before .before .before .before .pre in rw (c .with-status .ensures) (record { sum = f .sum; pulse = f .pulse; time = f .time })
 
 returns : tie.Need-returns
-unfolding stepsTo6
+unfolding steps1to6
 returns c = cc
 
 pub first-steps-spec : {M : Type 1} → statement M

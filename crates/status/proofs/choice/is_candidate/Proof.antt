@@ -8,4 +8,4 @@ unfolding candidate
 returns c = cc
 
 pub is-candidate-spec : {M : Type 1} → statement M
-is-candidate-spec = tie.close (tie.spec (λ c κs. search needs) (λ c κs. search needs) returns)
+is-candidate-spec = tie.close (tie.spec (λ c κs. search needs) (λ c κs. search needs) (λ c κs. search needs) returns)

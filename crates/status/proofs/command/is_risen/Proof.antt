@@ -1,10 +1,10 @@
-use Rattle.rules.specs.Record.{bitRisen, risen}
+use Rattle.rules.specs.Record.{commandRisen, bitRisen}
 use borrow.Author.Needs.{needs}
 use Rattle.status.proofs.command.is_risen.Statement.{statement}
 use Rattle.status.proofs.command.is_risen.Tie as tie
 
 returns : tie.Need-returns
-unfolding bitRisen risen
+unfolding commandRisen bitRisen
 returns c = cc
 
 pub is-risen-spec : {M : Type 1} → statement M

@@ -9,4 +9,4 @@ unfolding status4 withFlags withCommand
 returns c = cc
 
 pub end-command-spec : {M : Type 1} → statement M
-end-command-spec = tie.close (tie.spec (λ c κs. search needs) (λ c κs. search needs) (λ c κs. search needs) (λ c κs. search needs) (λ c κs. search needs) (λ c κs. search needs) (λ c κs. search needs) returns)
+end-command-spec = tie.close (tie.spec (λ c κs. search needs) (λ c κs. search needs) (λ c κs. search needs) (λ c κs. search needs) returns)

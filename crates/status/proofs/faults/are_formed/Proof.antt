@@ -1,11 +1,11 @@
-use Rattle.rules.specs.Steps.{formed}
+use Rattle.rules.specs.Steps.{faultsFormed}
 use Rattle.rules.specs.Record.{OPS₁, OPS₂, localMode}
 use borrow.Author.Needs.{needs}
 use Rattle.status.proofs.faults.are_formed.Statement.{statement}
 use Rattle.status.proofs.faults.are_formed.Tie as tie
 
 returns : tie.Need-returns
-unfolding formed OPS₁ OPS₂ localMode
+unfolding faultsFormed OPS₁ OPS₂ localMode
 returns c = cc
 
 pub are-formed-spec : {M : Type 1} → statement M

@@ -1,11 +1,11 @@
-use Rattle.rules.specs.Steps.{flag1}
+use Rattle.rules.specs.Steps.{switchFault}
 use Rattle.rules.specs.Record.{idle}
 use borrow.Author.Needs.{needs}
 use Rattle.status.proofs.faults.has_switch_fault.Statement.{statement}
 use Rattle.status.proofs.faults.has_switch_fault.Tie as tie
 
 returns : tie.Need-returns
-unfolding flag1 idle
+unfolding switchFault idle
 returns c = cc
 
 pub has-switch-fault-spec : {M : Type 1} → statement M

@@ -9,4 +9,4 @@ unfolding modeChanges localMode idle
 returns c = cc
 
 pub is-mode-changing-spec : {M : Type 1} → statement M
-is-mode-changing-spec = tie.close (tie.spec (λ c κs. search needs) (λ c κs. search needs) (λ c κs. search needs) (λ c κs. search needs) returns)
+is-mode-changing-spec = tie.close (tie.spec (λ c κs. search needs) (λ c κs. search needs) (λ c κs. search needs) (λ c κs. search needs) (λ c κs. search needs) returns)
