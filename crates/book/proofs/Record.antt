@@ -1,52 +1,42 @@
 -- The record over a list of entries is the record over its history. Assumes nothing.
-use Prim.Native.Nat.{ℕ, suc}
+use Prim.Native.Nat.{ℕ, suc, _<_}
 use mathlib.Core.Path.{_≡_, refl, sym, ap, _∙_}
 use mathlib.Core.Bool.{Bool, true, false, not, _&&_, false≢true}
 use mathlib.Core.List.{List, [], _∷_, _++_}
 use native.Mathlib.Omega.{arith}
 use lib.Dec.{eqb, leb}
-use lib.ListN.{length, getD}
-use borrow.Author.Tests.{eqb-true}
+use lib.ListN.{length, getD, length-append}
+use borrow.Author.Tests.{eqb-true, eqb-false}
 use Rattle.words.specs.Word.{if_then_else_}
 use Rattle.rules.specs.declared.Settings.{Settings}
 use Rattle.rules.specs.declared.Motor.{Motor}
 use Rattle.rules.specs.Steps.{step}
-use Rattle.rules.specs.Refusals.{countsOk, tableRefusal, tableAfter, oneAfter, stepAll}
+use Rattle.rules.specs.Refusals.{tableRefusal, tableAfter, oneAfter}
+use Rattle.rules.proofs.Tables.{element, table-refused}
 use Rattle.rules.specs.Scans.{Input}
 use Rattle.book.specs.Log.{Log, none, _▸_}
 use Rattle.book.specs.History.{Entry, table, single, otherTable, otherSingle, resultOf, after, inputOf, takesIn, counts, recordAfter, history, recordOf}
 
--- the element at the place of the motor, before and after the steps
+-- the motor's place in the table
 at-place : (b a : List Motor) (m : Motor) → getD (b ++ (m ∷ a)) (length b) m ≡ m
 at-place [] a m = refl
 at-place (x ∷ b) a m = at-place b a m
 
-at-steps : (b a : List Motor) (m : Motor) (ws : List ℕ) (p : ℕ) → length (b ++ (m ∷ a)) ≡ length ws
-    → getD (stepAll (b ++ (m ∷ a)) ws p) (length b) m ≡ step m (getD ws (length b) 0) p
-unfolding stepAll
-at-steps [] a m [] p h = absurd (omega arith)
-at-steps [] a m (w ∷ ws) p h = refl
-at-steps (x ∷ b) a m [] p h = absurd (omega arith)
-at-steps (x ∷ b) a m (w ∷ ws) p h = at-steps b a m ws p (omega arith)
-
--- an accepted table scan has a word for each motor
-same-length : (ms : List Motor) (ws : List ℕ) (p : ℕ) → eqb (tableRefusal ms ws p) 0 ≡ true → length ms ≡ length ws
-unfolding tableRefusal countsOk if_then_else_
-same-length ms ws p h = eqb-true _ _ (go (eqb (length ms) (length ws)) _ _ h)
-  where
-    go : (a b : Bool) (r : ℕ) → eqb (if not (a && b) then 1 else r) 0 ≡ true → a ≡ true
-    go true b r h = refl
-    go false b r h = h
+in-table : (b a : List Motor) (m : Motor) → length b < length (b ++ (m ∷ a))
+in-table b a m = rw length-append (omega arith)
 
 -- an entry that counts takes the ten steps, any other leaves the record
 after-is : (m : Motor) (e : Entry) → after m e ≡ (if counts m e then step m (inputOf e .word) (inputOf e .period) else m)
-unfolding after counts takesIn resultOf inputOf oneAfter tableAfter if_then_else_
+unfolding after counts takesIn resultOf inputOf oneAfter if_then_else_
 after-is m (table b a ws p) = go (eqb (tableRefusal (b ++ (m ∷ a)) ws p) 0) refl
   where
-    go : (t : Bool) → eqb (tableRefusal (b ++ (m ∷ a)) ws p) 0 ≡ t
-        → getD (if t then stepAll (b ++ (m ∷ a)) ws p else b ++ (m ∷ a)) (length b) m ≡ (if t then step m (getD ws (length b) 0) p else m)
-    go true h = at-steps b a m ws p (same-length (b ++ (m ∷ a)) ws p h)
-    go false h = at-place b a m
+    l : List Motor
+    l = b ++ (m ∷ a)
+
+    go : (t : Bool) → eqb (tableRefusal l ws p) 0 ≡ t
+        → getD (tableAfter l ws p) (length b) m ≡ (if t then step m (getD ws (length b) 0) p else m)
+    go true h = rw (at-place b a m) at (element l ws p (eqb-true _ _ h) (length b) m (in-table b a m))
+    go false h = rw (table-refused l ws p (eqb-false _ _ h)) (at-place b a m)
 after-is m (single w p) = refl
 after-is m (otherTable ms ws p) = refl
 after-is m (otherSingle n w p) = refl

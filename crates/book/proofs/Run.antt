@@ -12,26 +12,16 @@ use Rattle.words.specs.Word.{if_then_else_}
 use Rattle.rules.specs.declared.Settings.{Settings}
 use Rattle.rules.specs.declared.Motor.{Motor}
 use Rattle.rules.specs.Record.{fresh}
-use Rattle.rules.specs.Refusals.{oneAfter, tableAfter, stepAll}
+use Rattle.rules.specs.Refusals.{oneAfter, tableAfter}
+use Rattle.rules.proofs.Tables.{length-after}
 use Rattle.book.specs.Log.{Log, none, _▸_}
 use Rattle.book.specs.History.{Entry, single, otherSingle, after, recordAfter}
 use Rattle.book.specs.Run.{Order, all, one, nobody, scanned, tableRun, entryAt, entriesAt, Followed}
 use Rattle.book.proofs.Theorem.{demand3}
 
-length-steps : (ms : List Motor) (ws : List ℕ) (p : ℕ) → length (stepAll ms ws p) ≡ length ms
-unfolding stepAll
-length-steps [] ws p = refl
-length-steps (m ∷ ms) [] p = refl
-length-steps (m ∷ ms) (w ∷ ws) p = ap suc (length-steps ms ws p)
-
-length-if : (b : Bool) (x y : List Motor) → length x ≡ length y → length (if b then x else y) ≡ length y
-unfolding if_then_else_
-length-if true x y h = h
-length-if false x y h = refl
-
 length-scanned : (t : List Motor) (o : Order) → length (scanned t o) ≡ length t
-unfolding scanned tableAfter
-length-scanned t (all ws p) = length-if _ (stepAll t ws p) t (length-steps t ws p)
+unfolding scanned
+length-scanned t (all ws p) = length-after t ws p
 length-scanned t (one i w p) = length-set t i _
 
 length-run : (t : List Motor) (os : Log Order) → length (tableRun t os) ≡ length t

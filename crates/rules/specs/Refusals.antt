@@ -1,10 +1,10 @@
 -- The limits, and the order of refusals of a scan: the paper's "Refused because of the input", "Refused because of the state" and
 -- "Order", as far as they concern a scan. 0 is an accepted scan.
 use Prim.Native.Nat.{ℕ}
-use mathlib.Core.Bool.{Bool, true, false, not, _&&_}
-use mathlib.Core.List.{List, [], _∷_}
-use lib.Dec.{eqb, leb}
-use lib.ListN.{length}
+use mathlib.Core.Bool.{Bool, true, false, not, _&&_, _||_}
+use mathlib.Core.List.{List, [], _∷_, _++_}
+use lib.Dec.{eqb, leb, ltb}
+use lib.ListN.{length, take, drop}
 use Rattle.words.specs.Word.{if_then_else_}
 use Rattle.rules.specs.declared.Settings.{Settings}
 use Rattle.rules.specs.declared.Status.{Status}
@@ -28,7 +28,7 @@ mostWord = 131071
 abbrev pub mostPeriod : ℕ
 mostPeriod = 10000
 
-abbrev pub mostMotors : ℕ
+unfoldable pub mostMotors : ℕ
 mostMotors = 32
 
 -- Every field of a record is in its range, its settings included.
@@ -66,12 +66,13 @@ unfoldable pub allOk {ℓ} : {A : Type ℓ} → (A → Bool) → List A → Bool
 allOk test [] = true
 allOk test (x ∷ xs) = test x && allOk test xs
 
-unfoldable pub countsOk : List Motor → List ℕ → Bool
-countsOk ms words = eqb (length ms) (length words) && leb (length ms) mostMotors
+-- 1: records and words differ in count, or exceed 32
+unfoldable pub misfit : ℕ → ℕ → Bool
+misfit records words = not (eqb records words) || ltb mostMotors records
 
 unfoldable pub tableRefusal : List Motor → List ℕ → ℕ → ℕ
 tableRefusal ms words period =
-    if not (countsOk ms words) then 1
+    if misfit (length ms) (length words) then 1
     else if not (allOk inRange ms) then 6
     else if not (periodOk period) then 2
     else if not (allOk wordOk words) then 3
@@ -85,3 +86,11 @@ stepAll (m ∷ ms) (word ∷ words) period = step m word period ∷ stepAll ms w
 
 unfoldable pub tableAfter : List Motor → List ℕ → ℕ → List Motor
 tableAfter ms words period = if eqb (tableRefusal ms words period) 0 then stepAll ms words period else ms
+
+-- A scan of the first records of an array, with as many words; the records past them stay. A count that no table has is refused by 1.
+unfoldable pub partRefusal : List Motor → ℕ → List ℕ → ℕ → ℕ
+partRefusal ms count words period = if ltb mostMotors count then 1 else tableRefusal (take count ms) (take count words) period
+
+unfoldable pub partAfter : List Motor → ℕ → List ℕ → ℕ → List Motor
+partAfter ms count words period =
+    if ltb mostMotors count then ms else tableAfter (take count ms) (take count words) period ++ drop count ms

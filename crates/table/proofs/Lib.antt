@@ -1,0 +1,4 @@
+pub mod Arrays
+pub mod Passes
+pub mod Rows
+pub mod Walk

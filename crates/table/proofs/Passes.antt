@@ -1,0 +1,184 @@
+-- The two passes of `scan` over lists, with no memory: the refusal once i records are tested, the table once j are stepped, what a turn makes of each, and what they come to.
+-- Assumes nothing.
+use mathlib.Core.Path.{_≡_, refl, sym, _∙_, ap}
+use Prim.Native.Nat.{ℕ, zero, suc, _<_, _≤_, _^_, _+_}
+use native.Mathlib.Nat.{not-suc-le-zero, le-of-suc-le-suc}
+use native.Mathlib.Numerals.{add-one}
+use mathlib.Core.Bool.{Bool, true, false, not, _&&_}
+use mathlib.Core.List.{List, [], _∷_}
+use lib.Dec.{eqb, lit<}
+use lib.ListN.{length, getD, set, take}
+use lib.Seq.{take-all}
+use borrow.Author.Tests.{eqb-true, not-false}
+use Rattle.words.specs.Word.{if_then_else_}
+use Rattle.rules.specs.Steps.{step}
+use Rattle.rules.specs.Refusals.{misfit, inRange, periodOk, wordOk, allOk, oneAfter, tableRefusal, stepAll, tableAfter}
+use Rattle.rules.proofs.Tables.{and-end, or-false, accepted, each-accepted, one-accepted, length-stepAll}
+use Rattle.rules.specs.declared.Motor.{Motor}
+use Rattle.table.specs.Pass.{firstCode, nextCode, toTest, toStep}
+
+-- ---- tests
+and-assoc : (a b c : Bool) → a && (b && c) ≡ a && b && c
+and-assoc true b c = refl
+and-assoc false b c = refl
+
+allOk-suc {ℓ} : {A : Type ℓ} (f : A → Bool) (xs : List A) (i : ℕ) (d : A) → i < length xs → allOk f (take (suc i) xs) ≡ allOk f (take i xs) && f (getD xs i d)
+unfolding allOk
+allOk-suc f [] i d l = absurd (not-suc-le-zero l)
+allOk-suc f (x ∷ xs) zero d l = and-end (f x)
+allOk-suc f (x ∷ xs) (suc i) d l = ap (λ (b : Bool). f x && b) (allOk-suc f xs i d (le-of-suc-le-suc l)) ∙ and-assoc (f x) (allOk f (take i xs)) (f (getD xs i d))
+
+-- what the records x, the period q and the words y come to, and with them one more record m and word w
+code : Bool → Bool → Bool → ℕ
+code x q y = if_then_else_ (not x) 6 (if_then_else_ (not q) 2 (if_then_else_ (not y) 3 0))
+
+code-more : (x q y m w : Bool) → if_then_else_ (not m) 6 (if_then_else_ (eqb (code x q y) 0 && not w) 3 (code x q y)) ≡ code (x && m) q (y && w)
+unfolding if_then_else_ code
+code-more true q y false w = refl
+code-more false q y false w = refl
+code-more false q y true w = refl
+code-more true false y true w = refl
+code-more true true false true w = refl
+code-more true true true true w = refl
+
+code-fits : (x q y : Bool) → code x q y < 2 ^ 32
+unfolding if_then_else_ code
+code-fits false q y = lit< tt
+code-fits true false y = lit< tt
+code-fits true true false = lit< tt
+code-fits true true true = lit< tt
+
+-- ---- a pass that steps, over lists
+none-stepped : (ms : List Motor) (p : ℕ) → stepAll ms [] p ≡ ms
+unfolding stepAll
+none-stepped [] p = refl
+none-stepped (m ∷ ms) p = refl
+
+-- the record j is not stepped before its turn
+not-yet : (ms : List Motor) (ws : List ℕ) (p j : ℕ) (d : Motor) → getD (stepAll ms (take j ws) p) j d ≡ getD ms j d
+unfolding stepAll
+not-yet [] ws p j d = refl
+not-yet (m ∷ ms) ws p zero d = refl
+not-yet (m ∷ ms) [] p (suc j) d = refl
+not-yet (m ∷ ms) (w ∷ ws) p (suc j) d = not-yet ms ws p j d
+
+one-more : (ms : List Motor) (ws : List ℕ) (p j : ℕ) (d : Motor) → j < length ms → j < length ws → set (stepAll ms (take j ws) p) j (step (getD ms j d) (getD ws j 0) p) ≡ stepAll ms (take (suc j) ws) p
+unfolding stepAll
+one-more [] ws p j d l l′ = absurd (not-suc-le-zero l)
+one-more (m ∷ ms) [] p j d l l′ = absurd (not-suc-le-zero l′)
+one-more (m ∷ ms) (w ∷ ws) p zero d l l′ = ap (λ (ns : List Motor). step m w p ∷ ns) (sym (none-stepped ms p))
+one-more (m ∷ ms) (w ∷ ws) p (suc j) d l l′ = ap (λ (ns : List Motor). step m w p ∷ ns) (one-more ms ws p j d (le-of-suc-le-suc l) (le-of-suc-le-suc l′))
+
+-- ---- the first pass: the refusal once i records are tested. Each lemma is by the outcome z of the test of the lengths
+module _ (ms : List Motor) (ws : List ℕ) (p : ℕ) where
+  abbrev N : ℕ
+  N = length ms
+
+  abbrev K : ℕ
+  K = length ws
+
+  codeBy : Bool → ℕ → ℕ
+  codeBy z i = if_then_else_ z 1 (code (allOk inRange (take i ms)) (periodOk p) (allOk wordOk (take i ws)))
+
+  pub codeAt : ℕ → ℕ
+  codeAt i = codeBy (misfit N K) i
+
+  -- a table that is tested has a word for each record
+  same-length : misfit N K ≡ false → N ≡ K
+  unfolding misfit
+  same-length e = eqb-true N K (not-false (eqb N K) (or-false _ _ e .0))
+
+  in-test : (z : Bool) → misfit N K ≡ z → (i : ℕ) → i < if_then_else_ z 0 N → (i < N) × (i < K)
+  unfolding if_then_else_
+  in-test true e i l = absurd (not-suc-le-zero l)
+  in-test false e i l = (l, rw (same-length e) at l)
+
+  turn-by : (z : Bool) (d : Motor) (i : ℕ) → i < if_then_else_ z 0 N → i < N → i < K → nextCode (codeBy z i) (getD ms i d) (getD ws i 0) ≡ codeBy z (suc i)
+  unfolding if_then_else_ codeBy nextCode
+  turn-by true d i l a b = absurd (not-suc-le-zero l)
+  turn-by false d i l a b = rw (allOk-suc inRange ms i d a, allOk-suc wordOk ws i 0 b) (code-more (allOk inRange (take i ms)) (periodOk p) (allOk wordOk (take i ws)) (inRange (getD ms i d)) (wordOk (getD ws i 0)))
+
+  end-by : (z : Bool) → misfit N K ≡ z → (i : ℕ) → if_then_else_ z 0 N ≤ i → codeBy z i ≡ if_then_else_ z 1 (code (allOk inRange ms) (periodOk p) (allOk wordOk ws))
+  unfolding if_then_else_ codeBy
+  end-by true e i l = refl
+  end-by false e i l = rw (take-all i ms l, take-all i ws (rw (same-length e) at l))
+
+  fits-by : (z : Bool) (i : ℕ) → codeBy z i < 2 ^ 32
+  unfolding if_then_else_ codeBy
+  fits-by true i = lit< tt
+  fits-by false i = code-fits (allOk inRange (take i ms)) (periodOk p) (allOk wordOk (take i ws))
+
+  pub code-start : firstCode N K p ≡ codeAt 0
+  unfolding firstCode codeAt codeBy code allOk if_then_else_
+  code-start = refl
+
+  pub test-in : (i : ℕ) → i < toTest N K → (i < N) × (i < K)
+  unfolding toTest
+  test-in i l = in-test (misfit N K) refl i l
+
+  pub code-turn : (d : Motor) (i : ℕ) → i < toTest N K → nextCode (codeAt i) (getD ms i d) (getD ws i 0) ≡ codeAt (i + 1)
+  unfolding codeAt toTest
+  code-turn d i l = rw add-one (turn-by (misfit N K) d i l (in-test (misfit N K) refl i l .0) (in-test (misfit N K) refl i l .1))
+
+  pub code-end : (i : ℕ) → toTest N K ≤ i → codeAt i ≡ tableRefusal ms ws p
+  unfolding codeAt toTest tableRefusal misfit code
+  code-end i l = end-by (misfit N K) refl i l
+
+  pub code-small : (i : ℕ) → codeAt i < 2 ^ 32
+  unfolding codeAt
+  code-small i = fits-by (misfit N K) i
+
+  -- ---- the second pass: the table once j records are stepped. Each lemma is by whether the table is accepted
+  abbrev pub R : ℕ
+  R = tableRefusal ms ws p
+
+  tableBy : Bool → ℕ → List Motor
+  tableBy z j = if_then_else_ z (stepAll ms (take j ws) p) ms
+
+  pub tableAt : ℕ → List Motor
+  tableAt j = tableBy (eqb R 0) j
+
+  start-by : (z : Bool) → ms ≡ tableBy z 0
+  unfolding if_then_else_ tableBy
+  start-by true = sym (none-stepped ms p)
+  start-by false = refl
+
+  in-step : (z : Bool) → eqb R 0 ≡ z → (j : ℕ) → j < if_then_else_ z N 0 → (j < N) × (j < K)
+  unfolding if_then_else_
+  in-step true e j l = (l, rw (accepted ms ws p (eqb-true R 0 e) .lengths) at l)
+  in-step false e j l = absurd (not-suc-le-zero l)
+
+  step-by : (z : Bool) → eqb R 0 ≡ z → (d : Motor) (j : ℕ) → j < if_then_else_ z N 0 → j < N → j < K → set (tableBy z j) j (oneAfter (getD (tableBy z j) j d) (getD ws j 0) p) ≡ tableBy z (suc j)
+  unfolding if_then_else_ tableBy
+  step-by true e d j l a b = rw (not-yet ms ws p j d, one-accepted (getD ms j d) (getD ws j 0) p (each-accepted ms ws p (eqb-true R 0 e) j d a)) (one-more ms ws p j d a b)
+  step-by false e d j l a b = absurd (not-suc-le-zero l)
+
+  last-by : (z : Bool) → eqb R 0 ≡ z → (j : ℕ) → if_then_else_ z N 0 ≤ j → tableBy z j ≡ if_then_else_ z (stepAll ms ws p) ms
+  unfolding if_then_else_ tableBy
+  last-by true e j l = rw (take-all j ws (rw (accepted ms ws p (eqb-true R 0 e) .lengths) at l))
+  last-by false e j l = refl
+
+  length-by : (z : Bool) (j : ℕ) → length (tableBy z j) ≡ N
+  unfolding if_then_else_ tableBy
+  length-by true j = length-stepAll ms (take j ws) p
+  length-by false j = refl
+
+  pub table-start : ms ≡ tableAt 0
+  unfolding tableAt
+  table-start = start-by (eqb R 0)
+
+  pub step-in : (j : ℕ) → j < toStep R N → (j < N) × (j < K)
+  unfolding toStep
+  step-in j l = in-step (eqb R 0) refl j l
+
+  pub table-turn : (d : Motor) (j : ℕ) → j < toStep R N → set (tableAt j) j (oneAfter (getD (tableAt j) j d) (getD ws j 0) p) ≡ tableAt (j + 1)
+  unfolding tableAt toStep
+  table-turn d j l = rw add-one (step-by (eqb R 0) refl d j l (in-step (eqb R 0) refl j l .0) (in-step (eqb R 0) refl j l .1))
+
+  pub table-end : (j : ℕ) → toStep R N ≤ j → tableAt j ≡ tableAfter ms ws p
+  unfolding tableAt toStep tableAfter
+  table-end j l = last-by (eqb R 0) refl j l
+
+  pub table-length : (j : ℕ) → length (tableAt j) ≡ N
+  unfolding tableAt
+  table-length j = length-by (eqb R 0) j
