@@ -21,6 +21,7 @@ use Rattle.rules.specs.Record.{OPS₁, commands, idle, ownOutput, overdu
 use Rattle.rules.specs.Steps.{flags1, status1, positionRead, flags2, pretended, status2, running, step3, confirmed, overdue, ended, end4, flags4, status4, timeUp, pulseOver, drops, step4, putFlag, status5, modeAsked, status6, flags7, status7, chosen, firstOf, issued, flags9, issueStatus, raised, withoutOpposite, output9, issue, step9, status10, steps1to6, step}
 use Rattle.rules.specs.Refusals.{settingsInRange, statusInRange, outputInRange, inRange, periodOk, wordOk, oneRefusal, oneAfter}
 use Rattle.rules.specs.Scans.{Input, scans, SumsFit}
+use Rattle.rules.proofs.Tables.{and-true}
 
 -- ---- a choice has what both of its arms have
 
@@ -235,16 +236,12 @@ keeps m word period h f =
 
 -- ---- the bounds are the tests of the refusal
 
-both : (a b : Bool) → (a && b) ≡ true → (a ≡ true) × (b ≡ true)
-both true b h = (refl, h)
-both false b h = absurd (false≢true h)
-
 settings-fit : (s : Settings) → settingsInRange s ≡ true → SettingsFit s
 unfolding settingsInRange
 settings-fit s h =
-    let x = both (leb (s .ops1) 65535 && leb (s .ops2) 31 && leb (s .w) 600000) _ h in
-    let y = both (leb (s .ops1) 65535 && leb (s .ops2) 31) _ (x .0) in
-    let z = both (leb (s .ops1) 65535) _ (y .0) in
+    let x = and-true (leb (s .ops1) 65535 && leb (s .ops2) 31 && leb (s .w) 600000) _ h in
+    let y = and-true (leb (s .ops1) 65535 && leb (s .ops2) 31) _ (x .0) in
+    let z = and-true (leb (s .ops1) 65535) _ (y .0) in
     record { ops1 = leb-true _ _ (z .0); ops2 = leb-true _ _ (z .1); w = leb-true _ _ (y .1); u = leb-true _ _ (x .1) }
 
 status-fits : (v : Status) → statusInRange v ≡ true → Fits v
@@ -256,12 +253,12 @@ status-fits v h =
     let c = leb (v .command) 7 in
     let e = leb (v .end) 3 in
     let f = leb (v .flags) 16383 in
-    let a = both (m && s && p && c && e && f) _ h in
-    let b = both (m && s && p && c && e) _ (a .0) in
-    let d = both (m && s && p && c) _ (b .0) in
-    let g = both (m && s && p) _ (d .0) in
-    let k = both (m && s) _ (g .0) in
-    let l = both m _ (k .0) in
+    let a = and-true (m && s && p && c && e && f) _ h in
+    let b = and-true (m && s && p && c && e) _ (a .0) in
+    let d = and-true (m && s && p && c) _ (b .0) in
+    let g = and-true (m && s && p) _ (d .0) in
+    let k = and-true (m && s) _ (g .0) in
+    let l = and-true m _ (k .0) in
     let at : (x y : ℕ) → leb x y ≡ true → x < suc y = λ x y t. let z = leb-true x y t in omega arith in
     record {
       mode = at _ _ (l .0);
@@ -279,10 +276,10 @@ record-fits m h =
     let s = settingsInRange (m .settings) in
     let v = statusInRange (m .status) in
     let t = leb (m .sum) 599999 in
-    let a = both (s && v && t) _ h in
-    let b = both (s && v) _ (a .0) in
-    let c = both s _ (b .0) in
-    let o = both (leb (m .output .state) 2) _ (a .1) in
+    let a = and-true (s && v && t) _ h in
+    let b = and-true (s && v) _ (a .0) in
+    let c = and-true s _ (b .0) in
+    let o = and-true (leb (m .output .state) 2) _ (a .1) in
     let sum = leb-true (m .sum) 599999 (b .1) in
     let state = leb-true (m .output .state) 2 (o .0) in
     let pulse = leb-true (m .output .sum) 599999 (o .1) in
@@ -341,7 +338,7 @@ pub sums-fit : {m : Motor} {word period : ℕ} → Accepted m word period → Su
 unfolding periodOk
 sums-fit {m} {word} {period} a =
     let f = record-fits m (a .range) in
-    record { sum = f .sum; pulse = f .pulse; time = leb-true period 10000 (both (leb 1 period) _ (a .time) .1) }
+    record { sum = f .sum; pulse = f .pulse; time = leb-true period 10000 (and-true (leb 1 period) _ (a .time) .1) }
 
 -- ---- the range is kept
 
