@@ -1,0 +1,125 @@
+-- A request that is written as a line is read back, whatever lines follow. Assumes nothing.
+use Prim.Native.Nat.{ℕ, suc, _+_, _<_, _≤_}
+use mathlib.Core.Path.{_≡_, refl, ap, _∙_}
+use mathlib.Core.Bool.{_&&_}
+use mathlib.Core.List.{List, [], _∷_, _++_, map, append-assoc}
+use native.Mathlib.Omega.{arith}
+use lib.ListN.{length, getD, length-append, length-map}
+use lib.Dec.{eqb}
+use borrow.Author.Tests.{le-leb, lt-ltb, ne-eqb}
+use Rattle.words.specs.Word.{if_then_else_}
+use Rattle.sheet.specs.Split.{LF, comma, split, joined, indexOf, fieldOf, fieldCount}
+use Rattle.sheet.specs.Lines.{longest, line, wellSized, textOf, linesOf}
+use Rattle.sheet.specs.Number.{largest, numberOf}
+use Rattle.sheet.specs.Grammar.{letter-M, letter-I, letter-S, letterOf, isKind, numberIn, withValue, motorFrom, inputFrom, scanFrom, motorOf, inputOf, scanOf, requestOf, textRequest, requestsOf, valuesOf}
+use Rattle.sheet.specs.declared.Request.{Request}
+use Rattle.sheet.specs.declared.Request.the-variants.{Motor, Input, Scan, Refused}
+use Rattle.sheet.proofs.SplitLaws.{Free, free-none, free-more, split-joined, free-joined}
+use Rattle.sheet.proofs.LineLaws.{lines-part}
+use Rattle.report.specs.Print.{decimal, afterComma, afterCommas, lineOf}
+use Rattle.report.specs.Written.{written}
+use Rattle.report.proofs.PrintLaws.{line-length}
+use Rattle.report.proofs.ReadBack.{decimal-free, read-back}
+
+-- numbers that a field can say
+abbrev pub InRange : List ℕ → Type 0
+InRange [] = Unit {0}
+InRange (n ∷ ns) = (n ≤ largest) × InRange ns
+
+-- ---- a printed line without its LF
+
+-- its fields, a letter and the numbers
+abbrev pub fields : ℕ → List ℕ → List (List ℕ)
+fields letter ns = (letter ∷ []) ∷ map decimal ns
+
+-- with a part in front of the numbers
+pub commas-joined : (p ns : List ℕ) → p ++ afterCommas ns ≡ joined comma (p ∷ map decimal ns) ++ LF ∷ []
+unfolding afterCommas afterComma joined
+commas-joined p [] = refl
+commas-joined p (n ∷ ns) =
+    rw (append-assoc p (comma ∷ joined comma (decimal n ∷ map decimal ns)) (LF ∷ []))
+    (ap (λ (l : List ℕ). p ++ comma ∷ l) (commas-joined (decimal n) ns))
+
+commas-pos : (ns : List ℕ) → 0 < length (afterCommas ns)
+unfolding afterCommas afterComma
+commas-pos [] = omega arith
+commas-pos (n ∷ ns) = omega arith
+
+numbers-free : (b : ℕ) (ns : List ℕ) → b < 48 → InRange ns → Free b (map decimal ns)
+numbers-free b [] h r = free-none
+numbers-free b (n ∷ ns) h r = free-more (decimal-free b n h (r .0)) (numbers-free b ns h (r .1))
+
+module _ (letter : ℕ) (ns : List ℕ) (high : 48 ≤ letter) (r : InRange ns) where
+  fields-free : (b : ℕ) → b < 48 → Free b (fields letter ns)
+  unfolding indexOf if_then_else_
+  fields-free b h = free-more {p = letter ∷ []} (rw (ne-eqb letter b (λ e. omega arith))) (numbers-free b ns h r)
+
+  pub line-fields : split comma (joined comma (fields letter ns)) ≡ fields letter ns
+  line-fields = split-joined (fields-free comma (omega arith))
+
+  -- in front of other lines it is a line by itself; six numbers keep within the longest line
+  pub line-first : (s : List ℕ) → length ns < 7 → linesOf (lineOf letter ns ++ s) ≡ line (joined comma (fields letter ns)) ∷ linesOf s
+  unfolding lineOf textOf wellSized if_then_else_
+  line-first s h =
+      let body : List ℕ = joined comma (fields letter ns) in
+      let e : lineOf letter ns ≡ body ++ LF ∷ [] = commas-joined (letter ∷ []) ns in
+      let n : length (lineOf letter ns) ≡ length body + 1 = ap length e ∙ length-append body (LF ∷ []) in
+      let lines : linesOf (body ++ LF ∷ s) ≡ textOf body ∷ linesOf s = lines-part body s (free-joined (λ z. omega arith) (fields-free LF (omega arith))) in
+      let some : 0 < length body = omega (arith, commas-pos ns) in
+      let short : length body ≤ longest = omega (arith, line-length letter ns) in
+      ap (λ (l : List ℕ). linesOf (l ++ s)) e ∙ ap linesOf (append-assoc body (LF ∷ []) s) ∙ lines
+      ∙ rw (lt-ltb 0 (length body) some, le-leb (length body) longest short)
+
+  -- its kind, and the numbers in its fields
+  pub line-kind : (l count : ℕ) → isKind l count (joined comma (fields letter ns)) ≡ (eqb letter l && eqb (suc (length ns)) count)
+  unfolding isKind letterOf fieldOf fieldCount if_then_else_
+  line-kind l count = rw (line-fields, length-map ns decimal)
+
+  pub line-number : (k : ℕ) → numberIn (joined comma (fields letter ns)) (suc k) ≡ numberOf (getD (map decimal ns) k [])
+  unfolding numberIn fieldOf
+  line-number k = rw line-fields
+
+-- ---- the three kinds
+
+-- the requests of a printed line and what follows it
+line-request : (letter : ℕ) (ns s : List ℕ) → 48 ≤ letter → InRange ns → length ns < 7
+    → requestsOf (lineOf letter ns ++ s) ≡ requestOf (joined comma (fields letter ns)) ∷ requestsOf s
+unfolding requestsOf textRequest
+line-request letter ns s h r l = rw (line-first letter ns h r s l)
+
+empty-request : (s : List ℕ) → requestsOf (LF ∷ s) ≡ Refused ∷ requestsOf s
+unfolding requestsOf textRequest textOf wellSized indexOf if_then_else_
+empty-request s = rw (lines-part [] s refl)
+
+pub written-back : (r : Request) → InRange (valuesOf r) → (s : List ℕ) → requestsOf (written r ++ s) ≡ r ∷ requestsOf s
+unfolding written valuesOf requestOf motorOf inputOf scanOf motorFrom inputFrom scanFrom withValue if_then_else_
+written-back (Motor number ops1 ops2 w u) h s =
+    let ns : List ℕ = number ∷ ops1 ∷ ops2 ∷ w ∷ u ∷ [] in
+    let f = line-number letter-M ns (omega arith) h in
+    line-request letter-M ns s (omega arith) h (omega arith)
+    ∙ rw (
+      line-kind letter-M ns (omega arith) h letter-M 6,
+      f 0,
+      read-back number (h .0),
+      f 1,
+      read-back ops1 (h .1 .0),
+      f 2,
+      read-back ops2 (h .1 .1 .0),
+      f 3,
+      read-back w (h .1 .1 .1 .0),
+      f 4,
+      read-back u (h .1 .1 .1 .1 .0),
+    )
+written-back (Input number word) h s =
+    let ns : List ℕ = number ∷ word ∷ [] in
+    let k = line-kind letter-I ns (omega arith) h in
+    let f = line-number letter-I ns (omega arith) h in
+    line-request letter-I ns s (omega arith) h (omega arith)
+    ∙ rw (k letter-M 6, k letter-I 3, f 0, read-back number (h .0), f 1, read-back word (h .1 .0))
+written-back (Scan period) h s =
+    let ns : List ℕ = period ∷ [] in
+    let k = line-kind letter-S ns (omega arith) h in
+    let f = line-number letter-S ns (omega arith) h in
+    line-request letter-S ns s (omega arith) h (omega arith)
+    ∙ rw (k letter-M 6, k letter-I 3, k letter-S 2, f 0, read-back period (h .0))
+written-back Refused h s = empty-request s

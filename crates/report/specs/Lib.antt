@@ -1,0 +1,4 @@
+pub mod Put
+pub mod Print
+pub mod Written
+pub mod Opened

@@ -1,0 +1,5 @@
+pub mod SplitLaws
+pub mod LineLaws
+pub mod NumberLaws
+pub mod RequestLaws
+pub mod Vectors

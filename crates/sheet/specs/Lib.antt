@@ -1,0 +1,5 @@
+pub mod Split
+pub mod Lines
+pub mod Number
+pub mod Grammar
+pub mod Opened
