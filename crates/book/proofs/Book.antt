@@ -10,7 +10,7 @@ use Rattle.rules.specs.declared.Settings.{Settings}
 use Rattle.rules.specs.declared.Status.{Status}
 use Rattle.rules.specs.declared.Motor.{Motor}
 use Rattle.rules.specs.Record.{no-end, end-confirmed, end-displaced, end-overdue, idle, freshStatus, fresh, withMode, withPositions, withCommand, withFlags, withPrevious, withStatus}
-use Rattle.rules.specs.Steps.{status1, status2, confirmed, overdue, ended, end4, flags4, status4, status5, status6, status7, status9, issueStatus, status10, issued, step3, timeUp, step4, issue, step9, status1to6, status7to10, steps1to6, step}
+use Rattle.rules.specs.Steps.{status1, status2, confirmed, overdue, ended, end4, flags4, status4, status5, status6, status7, status9, issueStatus, status10, issued, step3, timeUp, step4, issue, step9, status1to6, status7to10, steps1to5, steps6to10, step}
 use Rattle.rules.specs.Scans.{Input}
 use Rattle.book.specs.Log.{Log, none, _▸_, count}
 use Rattle.book.specs.History.{recordOf}
@@ -54,12 +54,12 @@ step9-sum m c = go (eqb c 0)
     go false = refl
 
 settings-step : (m : Motor) (word p : ℕ) → step m word p .settings ≡ m .settings
-unfolding step steps1to6 withStatus step4 step3
+unfolding step steps1to5 steps6to10 withStatus step4 step3
 settings-step m word p = step9-settings _ _
 
 status-step : (m : Motor) (word p : ℕ) (s : Settings) (v : Status) → m .settings ≡ s → m .status ≡ v
     → step m word p .status ≡ status7to10 s (status1to6 s v word (upOf s v (m .sum) p)) word
-unfolding step steps1to6 withStatus step4 step3 timeUp status1to6 status7to10 upOf idle status2 status1 withFlags withPositions withCommand
+unfolding step steps1to5 steps6to10 withStatus step4 step3 timeUp status1to6 status7to10 upOf idle status2 status1 withFlags withPositions withCommand
 status-step m word p s v e f = rw (← e, ← f) (ap (λ (v : Status). status10 v word) (step9-status _ _))
 
 sum-step : (m : Motor) (word p : ℕ) (s : Settings) (v : Status) → m .settings ≡ s → m .status ≡ v
@@ -67,7 +67,7 @@ sum-step : (m : Motor) (word p : ℕ) (s : Settings) (v : Status) → m .setting
     ≡ (if eqb (issued s (status1to6 s v word (upOf s v (m .sum) p)) word) 0
     then (if endsIn s v word (upOf s v (m .sum) p) then 0 else if idle v then m .sum else m .sum + p)
     else 0)
-unfolding step steps1to6 withStatus step4 step3 timeUp status1to6 endsIn upOf idle status2 status1 withFlags withPositions withCommand
+unfolding step steps1to5 steps6to10 withStatus step4 step3 timeUp status1to6 endsIn upOf idle status2 status1 withFlags withPositions withCommand
 sum-step m word p s v e f = rw (← e, ← f) (step9-sum _ _)
 
 -- ---- the book's status, by its parts

@@ -1,8 +1,8 @@
 // The ten steps on the record.
 ghost use mathlib.Core.Path.{_≡_};
-ghost use Rattle.rules.specs.Scans.{SumsFit};
+ghost use Rattle.rules.specs.Scans.{SumsFit, Steppable};
 ghost use Rattle.rules.specs.Record.{withStatus};
-ghost use Rattle.rules.specs.Steps.{step3, step4, issue, step9, steps1to6, step};
+ghost use Rattle.rules.specs.Steps.{step3, step4, issue, step9, steps1to5, steps6to10, step};
 use crate::output::choose_output;
 use crate::output::is_dropped;
 use crate::output::is_running;
@@ -22,6 +22,7 @@ use status::mode::change_mode;
 use status::switches::begin;
 use status::switches::switches;
 use words::choose;
+use words::masked_out;
 
 pub fn with_status(m: Motor, v: Status) -> Motor
     ensures { λ r. ⌜ r ≡ withStatus m v ⌝ }
@@ -85,31 +86,43 @@ pub fn issue_any(m: Motor, c: u32) -> Motor
     if c == 0 { m } else { issue_command(m, c) }
 }
 
-// Steps 1 to 6.
+// Steps 1 to 5.
 pub fn first_steps(m: Motor, word: u32, period: u32) -> Motor
     requires { ⌜ SumsFit m period ⌝ }
-    ensures { λ r. ⌜ r ≡ steps1to6 m word period ⌝ }
+    ensures { λ r. ⌜ r ≡ steps1to5 m word period ⌝ }
 {
     let s = m.settings;
     let v = m.status;
     let begun = with_status(m, switches(s, begin(v, word), word));
     let settled = settle(add_period(begun, period), word);
     let w = settled.status;
-    with_status(settled, change_mode(s, form_flags(s, w, word), word))
+    with_status(settled, form_flags(s, w, word))
 }
 
-// All ten.
-pub fn step(m: Motor, word: u32, period: u32) -> Motor
-    requires { ⌜ SumsFit m period ⌝ }
-    ensures { λ r. ⌜ r ≡ step m word period ⌝ }
+// Steps 6 to 10.
+pub fn last_steps(m: Motor, word: u32) -> Motor
+    ensures { λ r. ⌜ r ≡ steps6to10 m word ⌝ }
 {
     let s = m.settings;
-    let n = first_steps(m, word, period);
-    let v = n.status;
+    let begun = m.status;
+    let v = change_mode(s, begun, word);
     let issued = issue_any(
-        with_status(n, acknowledge(s, v, word)),
+        with_status(m, acknowledge(s, v, word)),
         to_issue(s, v, word),
     );
     let w = issued.status;
     with_status(issued, keep_word(w, word))
+}
+
+// All ten. Where no bit has risen, steps 6 to 9 change nothing and are passed over.
+pub fn step(m: Motor, word: u32, period: u32) -> Motor
+    requires { ⌜ Steppable m period ⌝ }
+    ensures { λ r. ⌜ r ≡ step m word period ⌝ }
+{
+    let n = first_steps(m, word, period);
+    if masked_out(word, m.status.previous) == 0 {
+        let v = n.status;
+        return with_status(n, keep_word(v, word));
+    }
+    last_steps(n, word)
 }

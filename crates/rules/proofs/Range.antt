@@ -18,9 +18,9 @@ use Rattle.rules.specs.declared.Motor.{Motor}
 use Rattle.rules.specs.declared.Reading.{Reading}
 use Rattle.rules.specs.declared.Reading.the-variants.{Off, On, Unsure}
 use Rattle.rules.specs.Record.{OPS₁, commands, idle, ownOutput, overdueFlag, freshStatus, dropped, fresh, withMode, withPositions, withCommand, withFlags, withPrevious, withStatus}
-use Rattle.rules.specs.Steps.{flags1, status1, positionRead, flags2, pretended, status2, running, step3, confirmed, overdue, ended, end4, flags4, status4, timeUp, pulseOver, drops, step4, putFlag, status5, modeAsked, status6, flags7, status7, chosen, firstOf, issued, flags9, issueStatus, raised, withoutOpposite, output9, issue, step9, status10, steps1to6, step}
+use Rattle.rules.specs.Steps.{flags1, status1, positionRead, flags2, pretended, status2, running, step3, confirmed, overdue, ended, end4, flags4, status4, timeUp, pulseOver, drops, step4, putFlag, status5, modeAsked, status6, flags7, status7, chosen, firstOf, issued, flags9, issueStatus, raised, withoutOpposite, output9, issue, step9, status10, steps1to5, steps6to10, step}
 use Rattle.rules.specs.Refusals.{settingsInRange, statusInRange, outputInRange, inRange, periodOk, wordOk, oneRefusal, oneAfter}
-use Rattle.rules.specs.Scans.{Input, scans, SumsFit}
+use Rattle.rules.specs.Scans.{Input, scans, Steppable}
 use Rattle.rules.proofs.Tables.{and-true}
 
 -- ---- a choice has what both of its arms have
@@ -225,14 +225,24 @@ keeps9 m c h f =
       pulse = o .sum;
     })
 
-keeps : (m : Motor) (word period : ℕ) → word < 131072 → RecordFits m → RecordFits (step m word period)
-unfolding step steps1to6
-keeps m word period h f =
+keeps1to5 : (m : Motor) (word period : ℕ) → RecordFits m → RecordFits (steps1to5 m word period)
+unfolding steps1to5
+keeps1to5 m word period f =
     let s = m .settings in
-    let f₄ = keeps34 _ word period (with-status f (keeps2 s _ word (keeps1 (m .status) word (f .status)))) in
-    let f₆ = with-status f₄ (keeps6 s _ word (keeps5 s _ word (f₄ .status))) in
-    let f₉ = keeps9 _ _ (issued-fits s _ word) (with-status f₆ (keeps7 s _ word (f₆ .status))) in
-    with-status f₉ (keeps10 _ word h (f₉ .status))
+    let g = keeps34 _ word period (with-status f (keeps2 s _ word (keeps1 (m .status) word (f .status)))) in
+    with-status g (keeps5 s _ word (g .status))
+
+keeps6to10 : (m : Motor) (word : ℕ) → word < 131072 → RecordFits m → RecordFits (steps6to10 m word)
+unfolding steps6to10
+keeps6to10 m word h f =
+    let s = m .settings in
+    let v = keeps6 s (m .status) word (f .status) in
+    let g = keeps9 _ _ (issued-fits s (status6 s (m .status) word) word) (with-status f (keeps7 s _ word v)) in
+    with-status g (keeps10 _ word h (g .status))
+
+keeps : (m : Motor) (word period : ℕ) → word < 131072 → RecordFits m → RecordFits (step m word period)
+unfolding step
+keeps m word period h f = keeps6to10 (steps1to5 m word period) word h (keeps1to5 m word period f)
 
 -- ---- the bounds are the tests of the refusal
 
@@ -333,12 +343,16 @@ accepted m word period = go (inRange m) refl (periodOk period) refl (wordOk word
     go true p false q c r h = absurd (omega arith)
     go false p b q c r h = absurd (omega arith)
 
--- the sums of an accepted scan fit a word
-pub sums-fit : {m : Motor} {word period : ℕ} → Accepted m word period → SumsFit m period
+-- an accepted scan has what its code needs
+pub steppable : {m : Motor} {word period : ℕ} → Accepted m word period → Steppable m period
 unfolding periodOk
-sums-fit {m} {word} {period} a =
+steppable {m} {word} {period} a =
     let f = record-fits m (a .range) in
-    record { sum = f .sum; pulse = f .pulse; time = leb-true period 10000 (and-true (leb 1 period) _ (a .time) .1) }
+    let v = f .status in
+    record {
+      sums = record { sum = f .sum; pulse = f .pulse; time = leb-true period 10000 (and-true (leb 1 period) _ (a .time) .1) };
+      previous = omega (arith, v .previous);
+    }
 
 -- ---- the range is kept
 

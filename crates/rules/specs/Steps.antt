@@ -309,16 +309,19 @@ unfoldable pub status7to10 : Settings → Status → ℕ → Status
 status7to10 s v word = status10 (status9 s (status7 s v word) (issued s v word)) word
 
 -- The ten steps on the record.
-unfoldable pub steps1to6 : Motor → ℕ → ℕ → Motor
-steps1to6 m word period =
+unfoldable pub steps1to5 : Motor → ℕ → ℕ → Motor
+steps1to5 m word period =
     let s = m .settings in
     let m₂ = withStatus m (status2 s (status1 (m .status) word) word) in
     let m₄ = step4 (step3 m₂ period) word in
-    withStatus m₄ (status6 s (status5 s (m₄ .status) word) word)
+    withStatus m₄ (status5 s (m₄ .status) word)
+
+unfoldable pub steps6to10 : Motor → ℕ → Motor
+steps6to10 m word =
+    let s = m .settings in
+    let v₆ = status6 s (m .status) word in
+    let m₉ = step9 (withStatus m (status7 s v₆ word)) (issued s v₆ word) in
+    withStatus m₉ (status10 (m₉ .status) word)
 
 unfoldable pub step : Motor → ℕ → ℕ → Motor
-step m word period =
-    let s = m .settings in
-    let m₆ = steps1to6 m word period in
-    let m₉ = step9 (withStatus m₆ (status7 s (m₆ .status) word)) (issued s (m₆ .status) word) in
-    withStatus m₉ (status10 (m₉ .status) word)
+step m word period = steps6to10 (steps1to5 m word period) word

@@ -1,0 +1,120 @@
+-- What the requests do to the lists that a bench's arrays are. Assumes nothing.
+use Prim.Native.Nat.{ℕ, _+_, _-_, _<_, _≤_, min}
+use mathlib.Core.Path.{_≡_, refl, sym, ap, _∙_}
+use mathlib.Core.Bool.{Bool, true, false, not, _&&_}
+use mathlib.Core.List.{List, [], _∷_, _++_}
+use native.Mathlib.Omega.{arith}
+use native.Mathlib.Numerals.{add-one}
+use native.Mathlib.Decide.{decLe}
+use lib.Dec.{eqb, leb, ltb, lit<}
+use lib.ListN.{length, take, drop, set, length-take}
+use lib.Seq.{take-all, take-suc-set, take-set-lt}
+use borrow.Author.Tests.{eq-eqb, ne-eqb, leb-true, leb-false, le-ltb, not-false}
+use Rattle.words.specs.Word.{if_then_else_}
+use Rattle.rules.specs.declared.Motor.{Motor}
+use Rattle.rules.specs.declared.Settings.{Settings}
+use Rattle.rules.specs.Record.{fresh}
+use Rattle.rules.specs.Refusals.{mostMotors, settingsInRange, wordOk, tableRefusal, tableAfter, partRefusal, partAfter}
+use Rattle.rules.proofs.Tables.{if-zero, and-true, part-front, length-part}
+use Rattle.sheet.specs.declared.Request.{Request}
+use Rattle.sheet.specs.declared.Request.the-variants.{Motor as M, Input as I, Scan as S, Refused}
+use Rattle.interpreter.specs.State.{State, nextNumber, motorRefusal, withMotor, isThere, inputRefusal, withWords, withWord, scanRefusal, withScan, refusalFor, changed, stateAfter, viewOf}
+use Rattle.interpreter.specs.declared.Bench.{Bench}
+
+-- ---- an accepted request changes the state, a refused one does not
+
+pub accepted : (t : State) (r : Request) → refusalFor t r ≡ 0 → stateAfter t r ≡ changed t r
+unfolding stateAfter if_then_else_
+accepted t r h = rw (eq-eqb (refusalFor t r) 0 h)
+
+pub refused : (t : State) (r : Request) → (refusalFor t r ≡ 0 → ⊥) → stateAfter t r ≡ t
+unfolding stateAfter if_then_else_
+refused t r h = rw (ne-eqb (refusalFor t r) 0 h)
+
+-- ---- what an accepted request says of its numbers
+
+pub motor-room : (held scans number : ℕ) (s : Settings) → motorRefusal held scans number s ≡ 0 → held < mostMotors
+unfolding motorRefusal
+motor-room held scans number s h =
+    let a = if-zero (not (settingsInRange s)) 4 _ (lit< tt) h in
+    let b = if-zero (ltb 0 scans) 8 _ (lit< tt) (a .1) in
+    let c = if-zero (leb mostMotors held) 7 _ (lit< tt) (b .1) in
+    leb-false mostMotors held (c .0)
+
+pub input-there : (held number word : ℕ) → inputRefusal held number word ≡ 0 → (1 ≤ number) × (number ≤ held)
+unfolding inputRefusal isThere
+input-there held number word h =
+    let a = if-zero (not (leb 1 number && leb number held)) 10 _ (lit< tt) h in
+    let b = and-true (leb 1 number) (leb number held) (not-false _ (a .0)) in
+    (leb-true 1 number (b .0), leb-true number held (b .1))
+
+-- ---- the elements of an array that are in use
+
+module _ {A : Type 0} (n : ℕ) (l : List A) (is : length l ≡ 32) where
+  pub used : length (take n l) ≡ min n mostMotors
+  unfolding mostMotors
+  used = length-take n l ∙ ap (min n) is
+
+  -- more than are there are all
+  pub take-used : take n l ≡ take (min n mostMotors) l
+  unfolding mostMotors
+  take-used = go (decLe n 32)
+    where
+      go : Dec (n ≤ 32) → take n l ≡ take (min n 32) l
+      go (yes h) = let e : n ≡ min n 32 = omega arith in ap (λ (k : ℕ). take k l) e
+      go (no h) = take-all n l (omega arith) ∙ sym (take-all (min n 32) l (omega arith))
+
+  pub one-more : (x : A) → min n mostMotors < mostMotors → take (min n mostMotors + 1) (set l (min n mostMotors) x) ≡ take n l ++ (x ∷ [])
+  unfolding mostMotors
+  one-more x h =
+      let e : min n 32 ≡ n = omega arith in
+      rw (e, add-one n) (take-suc-set l n x (omega arith))
+
+-- ---- each request, on a bench
+
+module _ (b : Bench) (is : length (b .motors) ≡ 32) (js : length (b .words) ≡ 32) where
+  pub held : length (viewOf b .motors) ≡ min (b .count) mostMotors
+  held = used (b .count) (b .motors) is
+
+  pub add-refusal : (number : ℕ) (s : Settings)
+      → motorRefusal (min (b .count) mostMotors) (b .scans) number s ≡ refusalFor (viewOf b) (M number (s .ops1) (s .ops2) (s .w) (s .u))
+  unfolding refusalFor
+  add-refusal number s = rw held
+
+  pub add-state : (s : Settings) (number : ℕ) → min (b .count) mostMotors < mostMotors
+      → viewOf (record { motors = set (b .motors) (min (b .count) mostMotors) (fresh s); words = set (b .words) (min (b .count) mostMotors) 0; count = min (b .count) mostMotors + 1; scans = b .scans })
+      ≡ changed (viewOf b) (M number (s .ops1) (s .ops2) (s .w) (s .u))
+  unfolding changed withMotor
+  add-state s number h = rw (one-more (b .count) (b .motors) is (fresh s) h, one-more (b .count) (b .words) js 0 h)
+
+  pub word-refusal : (number word : ℕ) → inputRefusal (min (b .count) mostMotors) number word ≡ refusalFor (viewOf b) (I number word)
+  unfolding refusalFor
+  word-refusal number word = rw held
+
+  pub word-state : (number word : ℕ) → 1 ≤ number → number ≤ min (b .count) mostMotors
+      → viewOf (record { motors = b .motors; words = set (b .words) (number - 1) word; count = b .count; scans = b .scans }) ≡ changed (viewOf b) (I number word)
+  unfolding changed withWord withWords
+  word-state number word h l = rw (take-set-lt (b .count) (b .words) (number - 1) word (omega arith))
+
+  few : min (b .count) mostMotors ≤ mostMotors
+  few = omega arith
+
+  in-array : min (b .count) mostMotors ≤ 32
+  unfolding mostMotors
+  in-array = omega arith
+
+  pub scan-refusal : (period : ℕ) → partRefusal (b .motors) (min (b .count) mostMotors) (b .words) period ≡ refusalFor (viewOf b) (S period)
+  unfolding refusalFor scanRefusal partRefusal mostMotors if_then_else_
+  scan-refusal period = rw (le-ltb 32 (min (b .count) 32) (omega arith), ← take-used (b .count) (b .motors) is, ← take-used (b .count) (b .words) js)
+
+  pub scan-state : (period : ℕ)
+      → viewOf (record { motors = partAfter (b .motors) (min (b .count) mostMotors) (b .words) period; words = b .words; count = b .count; scans = nextNumber (b .scans) })
+      ≡ changed (viewOf b) (S period)
+  unfolding changed withScan
+  scan-state period =
+      rw (
+        take-used (b .count) (partAfter (b .motors) (min (b .count) mostMotors) (b .words) period) (length-part (b .motors) (min (b .count) mostMotors) (b .words) period ∙ is),
+        part-front (b .motors) (min (b .count) mostMotors) (b .words) period few (rw is in-array),
+        ← take-used (b .count) (b .motors) is,
+        ← take-used (b .count) (b .words) js,
+      )

@@ -1,0 +1,9 @@
+pub mod ActLaws
+pub mod PrintLaws
+pub mod AdvanceLaws
+pub mod InputLaws
+pub mod Kept
+pub mod Sheet
+pub mod Pieces
+pub mod Beginning
+pub mod Shape

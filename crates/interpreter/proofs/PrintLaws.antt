@@ -1,0 +1,121 @@
+-- Laws of the print: its rows one after another, how long they are, and what is left to print from a place on. Assumes nothing.
+use Prim.Native.Nat.{ℕ, suc, _+_, _*_, _<_, _≤_, min}
+use mathlib.Core.Path.{_≡_, refl, sym, ap, _∙_}
+use mathlib.Core.Bool.{Bool, true, false}
+use mathlib.Core.List.{List, [], _∷_, _++_, append-assoc, append-nil}
+use native.Mathlib.Omega.{arith}
+use native.Mathlib.Numerals.{add-one}
+use native.Mathlib.Nat.{add-zero}
+use lib.ListN.{length, take, drop, getD, length-append}
+use lib.Seq.{take-suc, length-take-le}
+use lib.Dec.{ltb}
+use borrow.Author.Tests.{eq-eqb, ne-eqb, lt-ltb, le-ltb}
+use Rattle.words.specs.Word.{if_then_else_}
+use Rattle.rules.specs.declared.Motor.{Motor}
+use Rattle.sheet.specs.declared.Request.{Request}
+use Rattle.sheet.specs.declared.Request.the-variants.{Motor as M, Input as I, Scan as S, Refused}
+use Rattle.sheet.specs.Grammar.{requestsOf, requestRefusal}
+use Rattle.sheet.proofs.RequestLaws.{Step, requests-end}
+use Rattle.report.specs.Print.{rowOf, refusalOf}
+use Rattle.report.proofs.PrintLaws.{row-length}
+use Rattle.interpreter.specs.State.{State, emptyState, nextNumber, refusalFor, changed}
+use Rattle.interpreter.specs.Print.{motorRow, rowsOf, answerOf, atEnd, printFrom, tooLong, printOf}
+use Rattle.interpreter.specs.Advance.{restFrom, mostPut}
+
+-- ---- the rows of the motors
+
+rows-last : (scan n : ℕ) (ms : List Motor) (m : Motor) → rowsOf scan n (ms ++ (m ∷ [])) ≡ rowsOf scan n ms ++ rowOf (motorRow scan (n + length ms) m)
+unfolding rowsOf
+rows-last scan n [] m = append-nil _ ∙ ap (λ (k : ℕ). rowOf (motorRow scan k m)) (sym (add-zero n))
+rows-last scan n (x ∷ ms) m =
+    let e : n + 1 + length ms ≡ n + suc (length ms) = omega arith in
+    rw (rows-last scan (n + 1) ms m, append-assoc, e)
+
+pub no-rows : (scan n : ℕ) → rowsOf scan n [] ≡ []
+unfolding rowsOf
+no-rows scan n = refl
+
+-- one motor more
+pub rows-more : (scan i : ℕ) (ms : List Motor) (d : Motor) → i < length ms
+    → rowsOf scan 1 (take (i + 1) ms) ≡ rowsOf scan 1 (take i ms) ++ rowOf (motorRow scan (i + 1) (getD ms i d))
+rows-more scan i ms d h =
+    let e : 1 + length (take i ms) ≡ i + 1 = omega (arith, length-take-le i ms (omega arith)) in
+    rw (add-one i) (ap (rowsOf scan 1) (take-suc ms i d h) ∙ rows-last scan 1 (take i ms) (getD ms i d) ∙ rw (e, add-one i))
+
+rows-length : (scan n : ℕ) (ms : List Motor) → length (rowsOf scan n ms) ≤ 90 * length ms
+unfolding rowsOf
+rows-length scan n [] = omega arith
+rows-length scan n (m ∷ ms) =
+    omega (arith, length-append (rowOf (motorRow scan n m)) (rowsOf scan (n + 1) ms), row-length (motorRow scan n m), rows-length scan (n + 1) ms)
+
+pub answer-length : (t : State) (r : Request) → length (t .motors) ≤ 32 → length (answerOf t r) ≤ mostPut
+unfolding answerOf
+answer-length t (M number ops1 ops2 w u) h = omega arith
+answer-length t (I number word) h = omega arith
+answer-length t (S period) h = omega (arith, rows-length (t .scans) 1 (t .motors))
+answer-length t Refused h = omega arith
+
+-- ---- the first of some requests
+
+module _ (end : State → List ℕ) (r : Request) (rs : List Request) (t : State) (k : ℕ) where
+  pub from-accepted : refusalFor t r ≡ 0 → printFrom end (r ∷ rs) t k ≡ answerOf (changed t r) r ++ printFrom end rs (changed t r) (nextNumber k)
+  unfolding printFrom if_then_else_
+  from-accepted h = rw (eq-eqb (refusalFor t r) 0 h)
+
+  pub from-refused : (refusalFor t r ≡ 0 → ⊥) → printFrom end (r ∷ rs) t k ≡ refusalOf k (refusalFor t r)
+  unfolding printFrom if_then_else_
+  from-refused h = rw (ne-eqb (refusalFor t r) 0 h)
+
+-- a line that makes no request is refused
+pub not-accepted : (t : State) (r : Request) → refusalFor t r ≡ 0 → r ≡ Refused → ⊥
+unfolding refusalFor requestRefusal
+not-accepted t (M number ops1 ops2 w u) h e = let z : _≡_ {A = ℕ} 0 1 = cc in omega arith
+not-accepted t (I number word) h e = let z : _≡_ {A = ℕ} 0 1 = cc in omega arith
+not-accepted t (S period) h e = let z : _≡_ {A = ℕ} 0 1 = cc in omega arith
+not-accepted t Refused h e = omega arith
+
+-- ---- what is left to print from a place on
+
+module _ (file : List ℕ) (at : ℕ) (t : State) (k : ℕ) where
+  pub rest-past : length file < at → restFrom file at t k ≡ []
+  unfolding restFrom if_then_else_
+  rest-past h = rw (lt-ltb (length file) at h)
+
+  pub rest-from : at ≤ length file → restFrom file at t k ≡ printFrom atEnd (requestsOf (drop at file)) t k
+  unfolding restFrom if_then_else_
+  rest-from h = rw (le-ltb (length file) at h)
+
+  -- at the end, and past it
+  pub rest-end : length file ≤ at → restFrom file at t k ≡ []
+  unfolding restFrom if_then_else_ printFrom atEnd
+  rest-end h = rw (requests-end file at h) (go (ltb (length file) at))
+    where
+      go : (b : Bool) → _≡_ {A = List ℕ} (if b then [] else []) []
+      go true = refl
+      go false = refl
+
+  module _ {r : Request} {next : ℕ} (s : Step file at r next) where
+    here : restFrom file at t k ≡ printFrom atEnd (r ∷ s .rest) t k
+    here = rest-from (omega (arith, s .further, s .within)) ∙ rw (s .here)
+
+    pub rest-accepted : refusalFor t r ≡ 0 → restFrom file at t k ≡ answerOf (changed t r) r ++ restFrom file next (changed t r) (nextNumber k)
+    unfolding restFrom if_then_else_
+    rest-accepted h =
+        here ∙ from-accepted atEnd r (s .rest) t k h
+        ∙ rw (s .goes-on (not-accepted t r h), le-ltb (length file) next (s .within))
+
+    pub rest-refused : (refusalFor t r ≡ 0 → ⊥) → restFrom file at t k ≡ refusalOf k (refusalFor t r)
+    rest-refused h = here ∙ from-refused atEnd r (s .rest) t k h
+
+-- ---- the whole print
+
+pub print-long : (file : List ℕ) → 65536 < length file → printOf file ≡ refusalOf 0 1
+unfolding printOf tooLong if_then_else_
+print-long file h = rw (lt-ltb 65536 (length file) h)
+
+pub print-short : (file : List ℕ) → length file ≤ 65536 → printOf file ≡ printFrom atEnd (requestsOf file) emptyState 1
+unfolding printOf tooLong if_then_else_
+print-short file h = rw (le-ltb 65536 (length file) h)
+
+pub print-rest : (file : List ℕ) → length file ≤ 65536 → printOf file ≡ restFrom file 0 emptyState 1
+print-rest file h = print-short file h ∙ sym (rest-from file 0 emptyState 1 (omega arith))

@@ -1,0 +1,86 @@
+use borrow.Author.Needs.{needs}
+use native.Mathlib.Omega.{arith}
+use Rattle.rules.specs.Refusals.{mostMotors}
+use Prim.Native.Nat.{_<_}
+use Rattle.sheet.specs.declared.Request.the-variants.{Motor as M}
+use Rattle.interpreter.specs.State.{refusalFor, viewOf}
+use mathlib.Core.Path.{_≡_, _∙_, sym}
+use lib.ListN.{length, length-map}
+use Rattle.interpreter.proofs.ActLaws.{accepted, refused, motor-room, add-refusal, add-state}
+use Rattle.interpreter.proofs.acts.add.Statement.{statement}
+use Rattle.interpreter.proofs.acts.add.Tie as tie
+use Rattle.interpreter.proofs.acts.add.Reads as reads
+use Rattle.interpreter.proofs.acts.add.Lts as lts
+use Rattle.book.proofs.start.Reads as start-reads
+use Rattle.interpreter.proofs.acts.in_use.Reads as in-use-reads
+use Rattle.interpreter.proofs.acts.motor_refusal.Reads as motor-refusal-reads
+
+motors-is : (c : tie.Start) → length (c .args .b .motors) ≡ 32
+motors-is c = simp length-map at (c .good .0 .1 .1 .0 .1 .0 .1)
+
+words-is : (c : tie.Start) → length (c .args .b .words) ≡ 32
+words-is c = simp length-map at (c .good .0 .1 .1 .1 .0 .1 .0 .1)
+
+-- the refusal is the definition's
+code : (c : tie.After-motor-refusal) → c .motor-refusal .result ≡ refusalFor (viewOf (c .before .before .args .b)) (M (c .before .before .args .number) (c .before .before .args .s .ops1) (c .before .before .args .s .ops2) (c .before .before .args .s .w) (c .before .before .args .s .u))
+code c =
+    let e = c .before .before in
+    c .motor-refusal .ensures ∙ rw (c .before .in-use .ensures) (add-refusal (e .args .b) (motors-is e) (words-is e) (e .args .number) (e .args .s))
+
+room : (c : tie.Then1) → c .before .before .in-use .result < mostMotors
+room c = motor-room _ _ _ _ (sym (c .before .motor-refusal .ensures) ∙ c .if1 .taken)
+
+in-use-requires : tie.Need-in-use-requires
+in-use-requires c κs = search needs
+
+motor-refusal-requires : tie.Need-motor-refusal-requires
+motor-refusal-requires c κs = search needs
+
+start-requires : tie.Need-start-requires
+start-requires c κs = search needs
+
+mul-fresh : tie.Need-mul-fresh
+unfolding mostMotors
+mul-fresh c = omega (arith, room (c .before))
+
+element-set-from-fresh : tie.Need-element-set-from-fresh
+unfolding mostMotors
+element-set-from-fresh c = omega (arith, room (c .before))
+
+mul-n : tie.Need-mul-n
+unfolding mostMotors
+mul-n c = omega (arith, room (c .before))
+
+element-write-n : tie.Need-element-write-n
+unfolding mostMotors
+element-write-n c = omega (arith, room (c .before))
+
+add-n : tie.Need-add-n
+unfolding mostMotors
+add-n c = omega (arith, room (c .before))
+
+returns : tie.Need-returns
+returns c =
+    let e = c .before .before .before .before in (
+      code (c .before .before),
+      rw (c .start .ensures .0, c .before .before .before .in-use .ensures)
+          (add-state (e .args .b) (motors-is e) (words-is e) (e .args .s) (e .args .number) (rw (c .before .before .before .in-use .ensures) at (room (c .before))) ∙ sym (accepted _ _ (sym (code (c .before .before)) ∙ c .before .if1 .taken))),
+    )
+
+returns-2 : tie.Need-returns-2
+returns-2 c = (code (c .before), sym (refused _ _ (λ q. c .if1 .left (code (c .before) ∙ q))))
+
+pub add-spec : {M : Type 1} → statement M
+add-spec =
+    tie.close
+    (tie.spec
+    in-use-requires
+    motor-refusal-requires
+    start-requires
+    mul-fresh
+    element-set-from-fresh
+    mul-n
+    element-write-n
+    add-n
+    returns
+    returns-2)

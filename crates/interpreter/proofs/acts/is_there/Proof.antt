@@ -1,0 +1,12 @@
+use Rattle.interpreter.specs.State.{isThere}
+use Rattle.interpreter.proofs.acts.is_there.Statement.{statement}
+use Rattle.interpreter.proofs.acts.is_there.Tie as tie
+use Rattle.interpreter.proofs.acts.is_there.Reads as reads
+use Rattle.interpreter.proofs.acts.is_there.Lts as lts
+
+returns : tie.Need-returns
+unfolding isThere
+returns c = cc
+
+pub is-there-spec : {M : Type 1} → statement M
+is-there-spec = tie.close (tie.spec returns)

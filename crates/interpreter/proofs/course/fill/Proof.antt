@@ -1,0 +1,65 @@
+use borrow.Author.Needs.{needs}
+use native.Mathlib.Omega.{arith}
+use Prim.Native.Nat.{suc, _-_, _≤_}
+use mathlib.Core.Path.{_≡_, _∙_}
+use lib.Dec.{leb}
+use lib.ListN.{length}
+use borrow.Author.Tests.{leb-true}
+use Rattle.rules.proofs.Tables.{and-true}
+use Rattle.report.proofs.PutLaws.{put-length}
+use Rattle.interpreter.specs.Advance.{mostPut}
+use Rattle.interpreter.proofs.AdvanceLaws.{Filling, filling-none, none-filled, filling-more, filled}
+use Rattle.interpreter.proofs.course.fill.Statement.{statement}
+use Rattle.interpreter.proofs.course.fill.Tie as tie
+use Rattle.interpreter.proofs.course.fill.Reads as reads
+use Rattle.interpreter.proofs.course.fill.Lts as lts
+use Rattle.interpreter.proofs.course.advance.Reads as advance-reads
+
+abbrev Inv-loop : tie.InvT-loop
+Inv-loop file out₀ last here₀ to₀ out here to = Filling file here₀ out₀ here out to
+
+abbrev μ-loop : tie.MeasureT-loop
+μ-loop file out₀ last here₀ to₀ out here to = suc (length file) - here .at
+
+returns : tie.Need-returns Inv-loop μ-loop
+returns c = none-filled (c .if1 .taken)
+
+sub-last : tie.Need-sub-last Inv-loop μ-loop
+sub-last c = search needs
+
+loop-holds : tie.Need-loop-holds Inv-loop μ-loop
+loop-holds c = filling-none
+
+advance-requires : tie.Need-advance-requires Inv-loop μ-loop
+advance-requires c κs = search needs
+
+loop-less : tie.Need-loop-less Inv-loop μ-loop
+loop-less c =
+    let l = c .before .before .before .before .before .before .before .loop in
+    let file = c .before .before .before .before .before .before .before .before .before .before .before .args .file .now in
+    let i : l .here .at ≤ length file = leb-true _ _ (and-true _ _ (c .before .before .before .before .before .if2 .taken) .0) in
+    omega (arith, c .before .before .before .advance .ensures .further i)
+
+loop-again : tie.Need-loop-again Inv-loop μ-loop
+loop-again c = filling-more (c .before .before .before .before .before .before .before .loop .inv) (c .before .before .before .advance .ensures) (c .before .before .before .before .before .if2 .taken) (c .before .before .before .before .before .before .before .before .if1 .left)
+
+same-length : tie.Need-same-length Inv-loop μ-loop
+same-length c = put-length (c .before .before .loop .inv .put)
+
+returns-2 : tie.Need-returns-2 Inv-loop μ-loop
+returns-2 c = filled (c .before .before .loop .inv) (c .if2 .left)
+
+pub fill-spec : {M : Type 1} → statement M
+fill-spec =
+    tie.close
+    (tie.spec
+    Inv-loop
+    μ-loop
+    returns
+    sub-last
+    loop-holds
+    advance-requires
+    loop-less
+    loop-again
+    same-length
+    returns-2)

@@ -1,0 +1,9 @@
+-- All definitions of the interpreter at once, for a proof that computes: `unfolding opened`, with those of rules, sheet and report.
+use Rattle.words.specs.Word.{if_then_else_}
+use Rattle.interpreter.specs.State.{emptyState, nextNumber, motorRefusal, withMotor, isThere, inputRefusal, withWords, withWord, scanRefusal, withScan, refusalFor, changed, stateAfter, statesAfter}
+use Rattle.interpreter.specs.Print.{motorRow, rowsOf, answerOf, atEnd, printFrom, linesPrint, tooLong, printOf}
+use Rattle.interpreter.specs.Advance.{restFrom}
+
+unfoldable pub opened : Type 0
+unfolding if_then_else_ emptyState nextNumber motorRefusal withMotor isThere inputRefusal withWords withWord scanRefusal withScan refusalFor changed stateAfter statesAfter motorRow rowsOf answerOf atEnd printFrom linesPrint tooLong printOf restFrom
+opened = Unit {0}

@@ -1,0 +1,40 @@
+// The bench: its state by value, what a line of a file does to it, and the print of a whole file, line by line. The meanings are
+// definitions in specs/; every open function is equal to its definition on any input.
+mod acts;
+mod course;
+mod inputs;
+mod prints;
+
+pub use acts::act;
+pub use course::advance;
+pub use course::begin;
+pub use course::fill;
+use rules::Motor;
+use table::MOST_MOTORS;
+
+// The first `count` elements of the arrays are in use: the motors by rising number, and the word that each holds.
+pub struct Bench {
+    pub motors: [Motor; MOST_MOTORS],
+    pub words: [u32; MOST_MOTORS],
+    pub count: usize,
+    pub scans: u32,
+}
+
+// What a request makes: its refusal, 0 if it is accepted, and the bench after it.
+pub struct Acted {
+    pub refusal: u32,
+    pub bench: Bench,
+}
+
+// A bench at a place of a file, where the line of this number begins. A place past the file's end: all is printed.
+pub struct Sitting {
+    pub bench: Bench,
+    pub at: usize,
+    pub line: u32,
+}
+
+// The sitting after some lines, and the place after what they put.
+pub struct Advanced {
+    pub sitting: Sitting,
+    pub to: usize,
+}

@@ -1,0 +1,50 @@
+-- A scan in which no bit of the word has risen: steps 6 to 9 leave everything as it is, so that code may pass them over.
+-- Assumes nothing.
+use Prim.Native.Nat.{ℕ, _/_, _%_, _^_, _<_}
+use mathlib.Core.Path.{_≡_, refl, sym, ap, _∙_}
+use mathlib.Core.Bool.{Bool, true, false, not, _&&_, and-false}
+use native.Mathlib.Nat.{zero-div}
+use lib.Dec.{eqb}
+use Rattle.words.specs.Word.{if_then_else_, bitOf, isSet, rose, without}
+use Rattle.words.proofs.Laws.{risen-is}
+use Rattle.rules.specs.declared.Settings.{Settings}
+use Rattle.rules.specs.declared.Status.{Status}
+use Rattle.rules.specs.declared.Motor.{Motor}
+use Rattle.rules.specs.Record.{localMode, commands, inputBit, bitRisen, commandRisen, idle, withMode, withPositions, withCommand, withFlags, withStatus}
+use Rattle.rules.specs.Steps.{status1, status2, step3, step4, status4, status5, modesRisen, modeChanges, status6, acknowledgesOff, acknowledgesOn, flags7, status7, candidate, firstOf, chosen, starts, displaces, issues, issued, step9, status10, steps1to5, steps6to10, step}
+
+module _ (s : Settings) (v : Status) (word : ℕ) (hw : word < 2 ^ 32) (hp : v .previous < 2 ^ 32) (none : without (v .previous) word ≡ 0) where
+  no-bit : (k : ℕ) → bitRisen v word k ≡ false
+  unfolding bitRisen isSet bitOf
+  no-bit k = sym (risen-is k word (v .previous) hw hp) ∙ rw (none, zero-div) refl
+
+  no-mode : status6 s v word ≡ v
+  unfolding status6 modeChanges modesRisen withMode if_then_else_
+  no-mode = simp (no-bit 9, no-bit 10, no-bit 11, and-false)
+
+  no-acknowledgement : status7 s v word ≡ v
+  unfolding status7 flags7 acknowledgesOff acknowledgesOn commandRisen inputBit withFlags if_then_else_
+  no-acknowledgement = simp (no-bit 13, no-bit 12, and-false)
+
+  no-choice : chosen s v word ≡ 0
+  unfolding chosen firstOf commands candidate commandRisen inputBit if_then_else_
+  no-choice = simp (no-bit 0, no-bit 8, no-bit 7, no-bit 3, no-bit 2, no-bit 13, no-bit 12)
+
+  none-issued : issued s v word ≡ 0
+  unfolding issued issues starts displaces if_then_else_
+  none-issued = rw no-choice (go (idle v))
+    where
+      go : (b : Bool) → _≡_ {A = ℕ} (if (if b then false else false) then 0 else 0) 0
+      go true = refl
+      go false = refl
+
+pub quiet : (m : Motor) (word period : ℕ) → word < 2 ^ 32 → m .status .previous < 2 ^ 32 → without (m .status .previous) word ≡ 0
+    → step m word period ≡ withStatus (steps1to5 m word period) (status10 (steps1to5 m word period .status) word)
+unfolding step steps6to10 step9 withStatus if_then_else_
+quiet m word period hw hp none =
+    let n = steps1to5 m word period in
+    let e : n .status .previous ≡ m .status .previous = unfold steps1to5 withStatus step4 step3 status5 status4 status2 status1 withFlags withCommand withPositions in refl in
+    let z : without (n .status .previous) word ≡ 0 = rw e none in
+    let q : n .status .previous < 2 ^ 32 = rw e hp in
+    rw (no-mode (n .settings) (n .status) word hw q z, no-acknowledgement (n .settings) (n .status) word hw q z, none-issued (n .settings) (n .status) word hw q z)
+    refl
