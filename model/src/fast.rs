@@ -1,0 +1,419 @@
+//! The bench written once more, for speed: state changed in place, nothing
+//! allocated by line, the print gathered in one buffer. It takes nothing from
+//! the model, so that the two can be compared as well.
+
+use std::io::{self, Read, Write};
+
+const SWITCH_BITS: u32 = 1 | 1 << 2 | 1 << 3 | 1 << 7 | 1 << 8 | 1 << 12 | 1 << 13;
+const LOCAL: u32 = 1 << 1;
+/// Commands as bits 1 to 7 of a mask: 3, 5 and 7 switch on.
+const ON_MASK: u32 = 1 << 3 | 1 << 5 | 1 << 7;
+const OFF_MASK: u32 = 1 << 1 | 1 << 2 | 1 << 4 | 1 << 6;
+const MU_MASK: u32 = 1 << 4 | 1 << 5;
+const KO_MASK: u32 = 1 << 6 | 1 << 7;
+
+#[derive(Clone, Copy, Default)]
+struct Motor {
+    ops: u32,
+    ops2: u32,
+    wait: u32,
+    pulse: u32,
+    word: u32,
+    previous: u32,
+    flags: u32,
+    sum: u32,
+    pulse_sum: u32,
+    mode: u8,
+    sure: u8,
+    position: u8,
+    command: u8,
+    end: u8,
+    output: u8,
+}
+
+/// Position that a command leads to: 1 Off, 2 On.
+#[inline]
+fn target(command: u8) -> u8 {
+    1 + (ON_MASK >> command & 1) as u8
+}
+
+impl Motor {
+    #[inline]
+    fn scan(&mut self, period: u32) {
+        let word = self.word;
+        let risen = word & !self.previous;
+        let ops = self.ops;
+        let outside = word & LOCAL == 0;
+        self.previous = word;
+        self.end = 0;
+        if word >> 16 & 1 == 1 {
+            self.flags &= 3;
+        }
+
+        let switches = word >> 4 & 3;
+        let reading = if ops & 1 == 0 {
+            1 + (switches & 1) as u8
+        } else {
+            match switches {
+                1 => 2,
+                2 => 1,
+                _ => 0,
+            }
+        };
+        if reading != 0 {
+            if self.command == 0 && self.sure != 0 && self.sure != reading {
+                self.flags |= if reading == 2 { 4 } else { 8 };
+            }
+            self.sure = reading;
+            self.position = reading;
+        } else if self.ops2 & 4 == 0 {
+            self.position = 0;
+        } else if self.ops2 & 8 == 0 {
+            self.position = self.sure;
+        } else {
+            self.position = 1 + (self.ops2 >> 4 & 1) as u8;
+        }
+
+        let pulses = ops & 64 != 0 && self.pulse > 0;
+        let mut cut = false;
+        if self.command != 0 {
+            self.sum += period;
+            let goal = target(self.command);
+            if reading == goal {
+                self.end = 1;
+                cut = ops & 128 != 0;
+            } else if self.sum >= self.wait {
+                self.end = 3;
+                self.flags |= 64 << self.command;
+                // Outputs count the other way round than positions.
+                cut = self.output == 3 - goal;
+            }
+            if self.end != 0 {
+                self.command = 0;
+                self.sum = 0;
+            }
+        }
+        if pulses && self.output != 0 {
+            self.pulse_sum += period;
+            if cut || self.pulse_sum >= self.pulse {
+                self.output = 0;
+                self.pulse_sum = 0;
+            }
+        }
+
+        self.flags &= !3;
+        if outside || self.ops2 & 2 != 0 || ops & 4 != 0 {
+            self.flags |= word >> 6 & ops >> 1 & 1;
+            if reading == 0 && self.command == 0 {
+                self.flags |= 2;
+            }
+        }
+
+        if risen & (SWITCH_BITS | 7 << 9) != 0 {
+            self.act(word, risen, outside);
+        }
+    }
+
+    /// Steps 6 to 9, when a key or command has risen.
+    #[inline]
+    fn act(&mut self, word: u32, risen: u32, outside: bool) {
+        let ops = self.ops;
+        let keys = risen >> 9 & 7;
+        if risen & SWITCH_BITS == 0 {
+            if outside && self.command == 0 {
+                match keys {
+                    1 if self.position == 1 => self.mode = 0,
+                    2 if self.position == 1
+                        && (self.flags & 2 == 0 || ops & 1 << 13 != 0)
+                        && (self.flags & 1 == 0 || ops & 1 << 14 != 0) =>
+                    {
+                        self.mode = 1;
+                    }
+                    4 => self.mode = 2,
+                    _ => {}
+                }
+            }
+            return;
+        }
+
+        let mut asked = (risen & 1) << 1
+            | (risen >> 8 & 1) << 2
+            | (risen >> 7 & 1) << 3
+            | (risen >> 3 & 1) << 4
+            | (risen >> 2 & 1) << 5
+            | (risen >> 13 & 1) << 6
+            | (risen >> 12 & 1) << 7;
+        if outside {
+            if asked & 1 << 6 != 0 && ops & 1 << 15 != 0 && self.flags & 96 != 0 {
+                self.flags &= !96;
+                asked &= !(1 << 6);
+            }
+            if asked & 1 << 7 != 0 && self.ops2 & 1 != 0 && self.flags & 16 != 0 {
+                self.flags &= !16;
+                asked &= !(1 << 7);
+            }
+            asked &= !MU_MASK;
+        } else {
+            asked &= !KO_MASK;
+        }
+        if word >> 14 & 1 == 1 {
+            asked &= if ops & 32 != 0 { !ON_MASK } else { !(1 << 7) };
+        }
+        if word >> 15 & 1 == 1 {
+            asked &= if ops & 16 != 0 { !(OFF_MASK & !2) } else { !(1 << 6) };
+        }
+        if self.flags & 1 != 0 {
+            asked &= !ON_MASK;
+        }
+        if asked == 0 || self.mode == 0 {
+            return;
+        }
+
+        let chosen = asked.trailing_zeros() as u8;
+        let goal = target(chosen);
+        if self.command == 0 {
+            if self.position == goal {
+                return;
+            }
+        } else {
+            if chosen >= self.command || (target(self.command) == goal && chosen != 1) {
+                return;
+            }
+            self.end = 2;
+        }
+        self.command = chosen;
+        self.sum = 0;
+        self.flags &= if goal == 2 { !96 } else { !16 };
+        match chosen {
+            1 => self.flags |= 64,
+            2 => self.flags |= 32,
+            3 => self.flags |= 16,
+            _ => {}
+        }
+        let own = 3 - goal;
+        if self.output == goal {
+            // The opposite output: its number is that of the own position.
+            self.output = 0;
+            self.pulse_sum = 0;
+        }
+        let silent = chosen == 1 && ops & 1 << 12 == 0
+            || MU_MASK >> chosen & 1 == 1 && ops & 4 == 0
+            || goal == 1 && ops & 64 == 0;
+        if !silent {
+            self.output = own;
+            self.pulse_sum = 0;
+        }
+        if self.mode == 1 {
+            let leaves = match chosen {
+                3 => 8,
+                2 => 9,
+                7 => 10,
+                6 => 11,
+                _ => return,
+            };
+            if ops >> leaves & 1 == 1 {
+                self.mode = 2;
+            }
+        }
+    }
+}
+
+/// A buffer that goes to the outlet when it is full.
+struct Print<W: Write> {
+    bytes: Vec<u8>,
+    outlet: W,
+}
+
+impl<W: Write> Print<W> {
+    fn number(&mut self, value: u32) {
+        push_number(&mut self.bytes, value);
+    }
+
+    fn flush(&mut self) -> io::Result<()> {
+        self.outlet.write_all(&self.bytes)?;
+        self.bytes.clear();
+        Ok(())
+    }
+}
+
+/// Writes a number to the front of a place and tells its length.
+#[inline]
+fn put_number(place: &mut [u8], mut value: u32) -> usize {
+    let mut length = 1;
+    let mut bound = 10u64;
+    while u64::from(value) >= bound {
+        length += 1;
+        bound *= 10;
+    }
+    for digit in place[..length].iter_mut().rev() {
+        *digit = b'0' + (value % 10) as u8;
+        value /= 10;
+    }
+    length
+}
+
+fn push_number(bytes: &mut Vec<u8>, value: u32) {
+    let mut digits = [0; 10];
+    let length = put_number(&mut digits, value);
+    bytes.extend_from_slice(&digits[..length]);
+}
+
+/// The numbers after the first comma into `fields`, which must all be filled.
+#[inline]
+fn numbers(text: &[u8], fields: &mut [u32]) -> bool {
+    let mut at = 0;
+    let last = fields.len() - 1;
+    for (count, field) in fields.iter_mut().enumerate() {
+        let start = at;
+        let mut value = 0u64;
+        while at < text.len() && text[at].is_ascii_digit() && at - start < 11 {
+            value = 10 * value + u64::from(text[at] - b'0');
+            at += 1;
+        }
+        let length = at - start;
+        if length == 0 || (length > 1 && text[start] == b'0') || value > u64::from(u32::MAX) {
+            return false;
+        }
+        *field = value as u32;
+        if count == last {
+            return at == text.len();
+        }
+        if at == text.len() || text[at] != b',' {
+            return false;
+        }
+        at += 1;
+    }
+    false
+}
+
+struct State {
+    motors: [Motor; 32],
+    count: usize,
+    scans: u32,
+    /// What the lines of one scan begin with.
+    head: Vec<u8>,
+}
+
+impl State {
+    /// One line without LF; 0 or the refusal.
+    fn line<W: Write>(&mut self, line: &[u8], print: &mut Print<W>) -> io::Result<u32> {
+        if line.len() > 80 || line.len() < 2 || line[1] != b',' {
+            return Ok(5);
+        }
+        let rest = &line[2..];
+        Ok(match line[0] {
+            b'S' => {
+                let mut fields = [0; 1];
+                if !numbers(rest, &mut fields) {
+                    5
+                } else if fields[0] == 0 || fields[0] > 10_000 {
+                    2
+                } else {
+                    self.scan(fields[0], print)?;
+                    0
+                }
+            }
+            b'I' => {
+                let mut fields = [0; 2];
+                if !numbers(rest, &mut fields) {
+                    return Ok(5);
+                }
+                let [number, word] = fields;
+                if number == 0 || number as usize > self.count {
+                    10
+                } else if word > 131_071 {
+                    3
+                } else {
+                    self.motors[number as usize - 1].word = word;
+                    0
+                }
+            }
+            b'M' => {
+                let mut fields = [0; 5];
+                if !numbers(rest, &mut fields) {
+                    return Ok(5);
+                }
+                let [number, ops, ops2, wait, pulse] = fields;
+                if ops > 65_535 || ops2 > 31 || wait > 600_000 || pulse > 600_000 {
+                    4
+                } else if self.scans > 0 {
+                    8
+                } else if self.count == 32 {
+                    7
+                } else if number as usize != self.count + 1 {
+                    9
+                } else {
+                    self.motors[self.count] = Motor { ops, ops2, wait, pulse, mode: 2, ..Motor::default() };
+                    self.count += 1;
+                    0
+                }
+            }
+            _ => 5,
+        })
+    }
+
+    fn scan<W: Write>(&mut self, period: u32, print: &mut Print<W>) -> io::Result<()> {
+        self.scans += 1;
+        self.head.clear();
+        self.head.extend_from_slice(b"R,");
+        push_number(&mut self.head, self.scans);
+        self.head.push(b',');
+        let head = self.head.len();
+        let mut line = [0u8; 48];
+        line[..head].copy_from_slice(&self.head);
+        for (place, motor) in self.motors[..self.count].iter_mut().enumerate() {
+            motor.scan(period);
+            let mut at = head + put_number(&mut line[head..], place as u32 + 1);
+            let mut middle = *b",0,0,0,0,0,";
+            middle[1] += motor.mode;
+            middle[3] += motor.position;
+            middle[5] += motor.command;
+            middle[7] += motor.end;
+            middle[9] += motor.output;
+            line[at..at + 11].copy_from_slice(&middle);
+            at += 11;
+            at += put_number(&mut line[at..], motor.flags);
+            line[at] = b'\n';
+            print.bytes.extend_from_slice(&line[..=at]);
+        }
+        if print.bytes.len() >= 60_000 {
+            print.flush()?;
+        }
+        Ok(())
+    }
+}
+
+/// Reads a file and writes its print.
+pub fn run(inlet: impl Read, outlet: impl Write) -> io::Result<()> {
+    let mut file = Vec::with_capacity(65_538);
+    inlet.take(65_537).read_to_end(&mut file)?;
+    let mut print = Print { bytes: Vec::with_capacity(65_536), outlet };
+    if file.len() > 65_536 {
+        print.bytes.extend_from_slice(b"E,0,1\n");
+        return print.flush();
+    }
+    let mut state =
+        State { motors: [Motor::default(); 32], count: 0, scans: 0, head: Vec::with_capacity(16) };
+    let mut rest = &file[..];
+    let mut lines = 0;
+    while !rest.is_empty() {
+        lines += 1;
+        let refusal = match rest.iter().position(|byte| *byte == b'\n') {
+            Some(end) => {
+                let line = &rest[..end];
+                rest = &rest[end + 1..];
+                state.line(line, &mut print)?
+            }
+            None => 5,
+        };
+        if refusal != 0 {
+            print.bytes.extend_from_slice(b"E,");
+            print.number(lines);
+            print.bytes.push(b',');
+            print.number(refusal);
+            print.bytes.push(b'\n');
+            break;
+        }
+    }
+    print.flush()
+}

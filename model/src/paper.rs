@@ -1,0 +1,177 @@
+//! The sheets of the paper, and others worked by hand from its sentences.
+
+/// What a sheet marks.
+#[derive(Clone, Debug)]
+pub enum Mark {
+    /// The whole print.
+    Whole(String),
+    /// The last line of the print.
+    Last(&'static str),
+    /// One field of the last line, which is an R line.
+    Field(Field, &'static str),
+}
+
+#[derive(Clone, Copy, Debug)]
+pub enum Field {
+    Mode = 3,
+    Position = 4,
+    Output = 7,
+}
+
+#[derive(Clone, Debug)]
+pub struct Sheet {
+    pub name: &'static str,
+    pub file: String,
+    pub mark: Mark,
+}
+
+impl Sheet {
+    /// Nothing if the print bears the mark, otherwise what is missing.
+    pub fn judge(&self, print: &[u8]) -> Result<(), String> {
+        let text = String::from_utf8_lossy(print);
+        let last = text.strip_suffix('\n').map(|text| text.rsplit('\n').next().unwrap_or(""));
+        match &self.mark {
+            Mark::Whole(whole) if text == *whole => Ok(()),
+            Mark::Whole(whole) => Err(format!("expected the print {whole:?}, got {text:?}")),
+            Mark::Last(line) if last == Some(line) => Ok(()),
+            Mark::Last(line) => Err(format!("expected the last line {line}, got the print {text:?}")),
+            Mark::Field(field, value) => {
+                let fields: Vec<&str> = last.unwrap_or("").split(',').collect();
+                if fields.len() == 9 && fields[0] == "R" && fields[*field as usize] == *value {
+                    Ok(())
+                } else {
+                    Err(format!("expected {field:?} {value}, got the print {text:?}"))
+                }
+            }
+        }
+    }
+}
+
+const MOTOR: &str = "M,1,193,0,500,300\n";
+const TWO_SCANS: &str = "I,1,32\nS,100\nI,1,4128\nS,100\n";
+
+fn sheet(name: &'static str, parts: &[&str], mark: Mark) -> Sheet {
+    Sheet { name, file: parts.concat(), mark }
+}
+
+fn whole(print: &str) -> Mark {
+    Mark::Whole(print.to_string())
+}
+
+/// All sheets of the paper, with a star or without.
+pub fn sheets() -> Vec<Sheet> {
+    use Field::*;
+    use Mark::{Field as Only, Last};
+    let table_32: String = (1..=32).map(|k| format!("M,{k},193,0,500,300\n")).collect();
+    let print_32: String = (1..=32).map(|k| format!("R,1,{k},2,0,0,0,0,2\n")).collect();
+    vec![
+        sheet(
+            "the whole print",
+            &["M,1,193,0,500,300\nI,1,32\nS,100\nI,1,4128\nS,100\nI,1,16\nS,100\n"],
+            whole("R,1,1,2,1,0,0,0,0\nR,2,1,2,1,7,0,1,0\nR,3,1,2,2,0,1,0,0\n"),
+        ),
+        sheet("scan 1, word 4128", &[MOTOR, "I,1,4128\nS,100\n"], whole("R,1,1,2,1,7,0,1,0\n")),
+        sheet("scan 4", &[MOTOR, TWO_SCANS, "I,1,32\nS,100\nS,100\n"], Last("R,4,1,2,1,7,0,1,0")),
+        sheet("scan 5", &[MOTOR, TWO_SCANS, "I,1,32\nS,100\nS,100\nS,100\n"], Only(Output, "0")),
+        sheet(
+            "scan 6",
+            &[MOTOR, TWO_SCANS, "I,1,32\nS,100\nS,100\nS,100\nS,100\n"],
+            Last("R,6,1,2,1,7,0,0,0"),
+        ),
+        sheet(
+            "scan 7",
+            &[MOTOR, TWO_SCANS, "I,1,32\nS,100\nS,100\nS,100\nS,100\nS,100\n"],
+            Last("R,7,1,2,1,0,3,0,8192"),
+        ),
+        sheet(
+            "scan 7, word 16",
+            &[MOTOR, TWO_SCANS, "I,1,32\nS,100\nS,100\nS,100\nS,100\nI,1,16\nS,100\n"],
+            Last("R,7,1,2,2,0,1,0,0"),
+        ),
+        sheet("scan 3, word 288", &[MOTOR, TWO_SCANS, "I,1,288\nS,100\n"], Last("R,3,1,2,1,2,2,2,32")),
+        sheet("scan 3, word 416", &[MOTOR, TWO_SCANS, "I,1,416\nS,100\n"], Last("R,3,1,2,1,2,2,2,32")),
+        sheet(
+            "scan 3, word 288, then 32",
+            &[MOTOR, TWO_SCANS, "I,1,288\nS,100\nI,1,32\nS,100\n"],
+            Last("R,4,1,2,1,0,1,0,32"),
+        ),
+        sheet(
+            "scan 3, word 416, then 32",
+            &[MOTOR, TWO_SCANS, "I,1,416\nS,100\nI,1,32\nS,100\n"],
+            Last("R,4,1,2,1,0,1,0,32"),
+        ),
+        sheet(
+            "W = 0, scan 3",
+            &["M,1,193,0,0,300\n", TWO_SCANS, "I,1,32\nS,100\n"],
+            Last("R,3,1,2,1,0,3,0,8192"),
+        ),
+        sheet("words 32, 16", &[MOTOR, "I,1,32\nS,100\nI,1,16\nS,100\n"], Last("R,2,1,2,2,0,0,0,4")),
+        sheet("scan 1, word 48", &[MOTOR, "I,1,48\nS,100\n"], whole("R,1,1,2,0,0,0,0,2\n")),
+        sheet("word 48, OPS_2 28", &["M,1,193,28,500,300\nI,1,48\nS,100\n"], Only(Position, "2")),
+        sheet("word 48, OPS_2 12", &["M,1,193,12,500,300\nI,1,48\nS,100\n"], Only(Position, "1")),
+        sheet("scan 1, word 544", &[MOTOR, "I,1,544\nS,100\n"], Only(Mode, "0")),
+        sheet("scan 1, word 2592", &[MOTOR, "I,1,2592\nS,100\n"], Only(Mode, "2")),
+        sheet("period 10,000", &[MOTOR, "I,1,32\nS,10000\n"], whole("R,1,1,2,1,0,0,0,0\n")),
+        sheet("period 10,001", &[MOTOR, "I,1,32\nS,10001\n"], whole("E,3,2\n")),
+        // Local mode forms no flags; SMA is chosen, sets flag 6, has no output.
+        sheet("word 131,071", &[MOTOR, "I,1,131071\nS,100\n"], whole("R,1,1,2,0,1,0,0,64\n")),
+        sheet("word 131,072", &[MOTOR, "I,1,131072\nS,100\n"], whole("E,2,3\n")),
+        sheet("W 600,000", &["M,1,193,0,600000,300\nI,1,32\nS,100\n"], whole("R,1,1,2,1,0,0,0,0\n")),
+        sheet("W 600,001", &["M,1,193,0,600001,300\nI,1,32\nS,100\n"], whole("E,1,4\n")),
+        // Word 0: neither switch, so unsure with flag 1.
+        sheet("32 motors", &[&table_32, "S,100\n"], Mark::Whole(print_32)),
+        sheet("33 motors", &[&table_32, "M,33,193,0,500,300\nS,100\n"], whole("E,33,7\n")),
+    ]
+}
+
+/// Other sheets, worked by hand.
+pub fn more_sheets() -> Vec<Sheet> {
+    use Mark::Last;
+    let long_line = format!("S,{}\n", "1".repeat(79));
+    let line_of_80 = format!("S,{}\n", "1".repeat(78));
+    vec![
+        sheet("settings at their limits", &["M,1,65535,31,600000,600000\n"], whole("")),
+        sheet("OPS_1 65,536", &["M,1,65536,31,600000,600000\n"], whole("E,1,4\n")),
+        sheet("OPS_2 32", &["M,1,65535,32,600000,600000\n"], whole("E,1,4\n")),
+        sheet("U 600,001", &["M,1,65535,31,600000,600001\n"], whole("E,1,4\n")),
+        sheet("period 0", &[MOTOR, "S,0\n"], whole("E,2,2\n")),
+        sheet("motor 0", &[MOTOR, "I,0,0\n"], whole("E,2,10\n")),
+        sheet("motor 2 of 1", &[MOTOR, "I,2,131072\n"], whole("E,2,10\n")),
+        sheet("not the next number", &[MOTOR, "M,3,0,0,0,0\n"], whole("E,2,9\n")),
+        sheet("an empty file", &[], whole("")),
+        sheet("a lone LF", &["\n"], whole("E,1,5\n")),
+        sheet("no motors", &["S,1\nS,1\nM,1,0,0,0,0\n"], whole("E,3,8\n")),
+        sheet("81 bytes", &[MOTOR, "S,1\n", &long_line], whole("R,1,1,2,0,0,0,0,2\nE,3,5\n")),
+        sheet("80 bytes", &[MOTOR, &line_of_80], whole("E,2,5\n")),
+        sheet("no LF at the end", &[MOTOR, "S,100"], whole("E,2,5\n")),
+        sheet("CR before LF", &[MOTOR, "S,100\r\n"], whole("E,2,5\n")),
+        sheet("greatest number and one", &["S,4294967296\n"], whole("E,1,5\n")),
+        sheet("32 bits and one", &["S,4294967297\n"], whole("E,1,5\n")),
+        sheet("64 bits and one", &["S,18446744073709551617\n"], whole("E,1,5\n")),
+        sheet("128 bits and one", &["S,340282366920938463463374607431768211457\n"], whole("E,1,5\n")),
+        // "Confirming from the position instead of a sure reading".
+        sheet(
+            "a pretended position does not confirm",
+            &["M,1,193,28,500,300\nI,1,4128\nS,100\nI,1,48\nS,100\n"],
+            Last("R,2,1,2,2,7,0,1,0"),
+        ),
+        // "Choosing LZ on because LZ off would not displace a KO off".
+        sheet(
+            "the choice comes first",
+            &[MOTOR, "I,1,16\nS,100\nI,1,8208\nS,100\nI,1,400\nS,100\n"],
+            whole("R,1,1,2,2,0,0,0,0\nR,2,1,2,2,6,0,2,0\nR,3,1,2,2,6,0,2,0\n"),
+        ),
+        // "Dropping a held output when overdue".
+        sheet(
+            "a held output outlives the command",
+            &["M,1,193,0,500,0\nI,1,4128\nS,100\nS,500\n"],
+            Last("R,2,1,2,1,0,3,1,8192"),
+        ),
+        // A rise is measured against the last scan, not the last I line.
+        sheet(
+            "no rise between two scans",
+            &[MOTOR, "I,1,4128\nS,100\nI,1,16\nS,100\nI,1,4112\nI,1,32\nS,100\nI,1,0\nI,1,32\nS,100\n"],
+            Last("R,4,1,2,1,0,0,0,8"),
+        ),
+    ]
+}

@@ -1,0 +1,209 @@
+//! Counts of what happened in the files.
+
+use crate::file::Done;
+use crate::rules::{Cause, Command, End, Mode, Trace};
+use std::fmt;
+
+#[derive(Clone, Debug, Default)]
+pub struct Tally {
+    pub files: u64,
+    /// Without refusal.
+    pub whole: u64,
+    /// Near the greatest length; of these only refusals are counted.
+    pub long: u64,
+    pub bytes: u64,
+    pub scans: u64,
+    pub motor_scans: u64,
+    pub issued: [u64; 7],
+    pub confirmed: [u64; 7],
+    pub displaced: [u64; 7],
+    pub overdue: [u64; 7],
+    pub modes: [u64; 3],
+    pub work_by_command: u64,
+    pub acknowledged: [u64; 2],
+    pub unsure: u64,
+    pub pretended: u64,
+    pub unsanctioned: u64,
+    pub pulses: u64,
+    pub held: u64,
+    pub dropped: [u64; 3],
+    pub barred: u64,
+    pub lost: u64,
+    pub idle_choice: u64,
+    pub end_and_issue: u64,
+    pub local: u64,
+    pub reset: u64,
+    pub no_supply: u64,
+    pub switch_fault: u64,
+    pub refused: [u64; 11],
+}
+
+impl Tally {
+    pub fn motor_scan(&mut self, trace: &Trace) {
+        self.motor_scans += 1;
+        if let Some(command) = trace.issued {
+            self.issued[command.number() as usize - 1] += 1;
+        }
+        if let Some((command, end)) = trace.ended {
+            let list = match end {
+                End::Confirmed => &mut self.confirmed,
+                End::Displaced => &mut self.displaced,
+                End::Overdue => &mut self.overdue,
+            };
+            list[command.number() as usize - 1] += 1;
+            if trace.issued.is_some() && end != End::Displaced {
+                self.end_and_issue += 1;
+            }
+        }
+        match trace.mode_by_key {
+            Some(Mode::Repair) => self.modes[0] += 1,
+            Some(Mode::Reserve) => self.modes[1] += 1,
+            Some(Mode::Work) => self.modes[2] += 1,
+            None => {}
+        }
+        match trace.dropped {
+            Some(Cause::Time) => self.dropped[0] += 1,
+            Some(Cause::Overdue) => self.dropped[1] += 1,
+            Some(Cause::Confirmed) => self.dropped[2] += 1,
+            None => {}
+        }
+        self.acknowledged[0] += u64::from(trace.acknowledged_off);
+        self.acknowledged[1] += u64::from(trace.acknowledged_on);
+        self.barred += u64::from(trace.barred);
+        self.lost += u64::from(trace.lost);
+        for (count, happened) in [
+            (&mut self.work_by_command, trace.work_by_command),
+            (&mut self.unsure, trace.unsure),
+            (&mut self.pretended, trace.pretended),
+            (&mut self.unsanctioned, trace.unsanctioned),
+            (&mut self.pulses, trace.raised_pulse),
+            (&mut self.held, trace.raised_held),
+            (&mut self.idle_choice, trace.idle_choice),
+            (&mut self.local, trace.local),
+            (&mut self.reset, trace.reset),
+            (&mut self.no_supply, trace.no_supply),
+            (&mut self.switch_fault, trace.switch_fault),
+        ] {
+            *count += u64::from(happened);
+        }
+    }
+
+    /// Counts the refusals only, for files whose many scans would drown the rest.
+    pub fn refusal(&mut self, result: &Result<Done, u32>) {
+        if let Err(refusal) = result {
+            self.refused[*refusal as usize] += 1;
+        }
+    }
+
+    /// A line as [`crate::file::run_watched`] tells of it.
+    pub fn line(&mut self, result: &Result<Done, u32>) {
+        match result {
+            Ok(Done::Scan(_, traces)) => {
+                self.scans += 1;
+                traces.iter().for_each(|trace| self.motor_scan(trace));
+            }
+            _ => self.refusal(result),
+        }
+    }
+
+    /// Counts a file, besides what its lines did.
+    pub fn file(&mut self, bytes: usize, refused: bool, long: bool) {
+        self.files += 1;
+        self.whole += u64::from(!refused);
+        self.long += u64::from(long);
+        self.bytes += bytes as u64;
+    }
+
+    pub fn add(&mut self, other: &Tally) {
+        fn each(sum: &mut [u64], more: &[u64]) {
+            sum.iter_mut().zip(more).for_each(|(a, b)| *a += b);
+        }
+        each(&mut self.issued, &other.issued);
+        each(&mut self.confirmed, &other.confirmed);
+        each(&mut self.displaced, &other.displaced);
+        each(&mut self.overdue, &other.overdue);
+        each(&mut self.modes, &other.modes);
+        each(&mut self.acknowledged, &other.acknowledged);
+        each(&mut self.dropped, &other.dropped);
+        each(&mut self.refused, &other.refused);
+        self.files += other.files;
+        self.whole += other.whole;
+        self.long += other.long;
+        self.bytes += other.bytes;
+        self.scans += other.scans;
+        self.motor_scans += other.motor_scans;
+        self.work_by_command += other.work_by_command;
+        self.unsure += other.unsure;
+        self.pretended += other.pretended;
+        self.unsanctioned += other.unsanctioned;
+        self.pulses += other.pulses;
+        self.held += other.held;
+        self.barred += other.barred;
+        self.lost += other.lost;
+        self.idle_choice += other.idle_choice;
+        self.end_and_issue += other.end_and_issue;
+        self.local += other.local;
+        self.reset += other.reset;
+        self.no_supply += other.no_supply;
+        self.switch_fault += other.switch_fault;
+    }
+}
+
+impl fmt::Display for Tally {
+    fn fmt(&self, f: &mut fmt::Formatter) -> fmt::Result {
+        let row = |f: &mut fmt::Formatter, title: &str, counts: &[u64; 7]| {
+            write!(f, "  {title:<22}")?;
+            for (command, count) in Command::STRONGEST_FIRST.iter().zip(counts) {
+                write!(f, " {}:{count}", command.number())?;
+            }
+            writeln!(f, "  all:{}", counts.iter().sum::<u64>())
+        };
+        writeln!(f, "in the random files, by the model's count:")?;
+        writeln!(
+            f,
+            "  files {} (without refusal {}), bytes {}; near the greatest length {}, of these only refusals:",
+            self.files, self.whole, self.bytes, self.long
+        )?;
+        writeln!(f, "  scans {}, motor scans {}", self.scans, self.motor_scans)?;
+        row(f, "commands issued", &self.issued)?;
+        row(f, "ended confirmed", &self.confirmed)?;
+        row(f, "ended displaced", &self.displaced)?;
+        row(f, "ended overdue", &self.overdue)?;
+        writeln!(f, "  ended and issued in one scan {}", self.end_and_issue)?;
+        writeln!(
+            f,
+            "  mode changes           Repair:{} Reserve:{} Work:{} Work by command:{}",
+            self.modes[0], self.modes[1], self.modes[2], self.work_by_command
+        )?;
+        writeln!(
+            f,
+            "  acknowledgements       KO off:{} KO on:{}",
+            self.acknowledged[0], self.acknowledged[1]
+        )?;
+        writeln!(
+            f,
+            "  readings               unsure:{} of them pretended:{} unsanctioned changes:{}",
+            self.unsure, self.pretended, self.unsanctioned
+        )?;
+        writeln!(
+            f,
+            "  outputs                pulses:{} held:{} dropped by time:{} by overdue:{} by confirming:{}",
+            self.pulses, self.held, self.dropped[0], self.dropped[1], self.dropped[2]
+        )?;
+        writeln!(
+            f,
+            "  rises                  barred:{} lost:{} chosen but not issued:{}",
+            self.barred, self.lost, self.idle_choice
+        )?;
+        writeln!(
+            f,
+            "  motor scans with       local mode:{} Reset:{} no supply:{} switch fault:{}",
+            self.local, self.reset, self.no_supply, self.switch_fault
+        )?;
+        write!(f, "  refusals              ")?;
+        for refusal in [1, 2, 3, 4, 5, 7, 8, 9, 10] {
+            write!(f, " {refusal}:{}", self.refused[refusal])?;
+        }
+        writeln!(f)
+    }
+}

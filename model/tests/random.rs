@@ -1,0 +1,148 @@
+//! Random histories: the record against the book, the model against the fast
+//! version, and the files against what they promise.
+
+use motor_model::book::Book;
+use motor_model::file::{run, run_watched, Bench, Done};
+use motor_model::record::Record;
+use motor_model::rules::scan_one;
+use motor_model::story::{self, Dice};
+use motor_model::tally::Tally;
+use motor_model::{fast, shrink};
+
+/// After every scan each record has what its book has, and the bound on every
+/// chain holds.
+#[test]
+fn records_and_books() {
+    for index in 0..1500 {
+        if story::is_long(index) {
+            continue;
+        }
+        let file = story::file(77, index);
+        let mut bench = Bench::default();
+        let mut books: Vec<Book> = Vec::new();
+        for raw in file.split_inclusive(|byte| *byte == b'\n') {
+            let Some(line) = raw.strip_suffix(b"\n") else { break };
+            match bench.take(line, true) {
+                Ok(Done::Motor) => books.push(Book::of(bench.motors.last().unwrap())),
+                Ok(Done::Word) => {}
+                Ok(Done::Scan(..)) => {
+                    let period: u32 = String::from_utf8_lossy(&line[2..]).parse().unwrap();
+                    for ((book, record), word) in books.iter_mut().zip(&bench.motors).zip(&bench.words) {
+                        book.scan(*word, period);
+                        assert!(book.agrees_with(record), "file {index}");
+                        assert!(book.bound_holds(), "file {index}");
+                        assert!(record.in_range());
+                        tidy(record);
+                    }
+                }
+                Err(_) => break,
+            }
+        }
+    }
+}
+
+/// What the paper says of every record that began fresh.
+fn tidy(record: &Record) {
+    let pulses = record.ops_1 & 64 != 0 && record.pulse > 0;
+    assert!(record.command != 0 || record.sum == 0);
+    assert!(record.sum == 0 || record.sum < record.wait);
+    assert!(pulses && record.output != 0 || record.pulse_sum == 0);
+    assert!(record.pulse_sum == 0 || record.pulse_sum < record.pulse);
+    assert!(record.position == 0 || record.position == record.last_sure || record.ops_2 & 12 == 12);
+}
+
+#[test]
+fn model_and_fast_version() {
+    for seed in [3, 4] {
+        for index in 0..4000 {
+            let file = story::file(seed, index);
+            let mut print = Vec::new();
+            fast::run(&file[..], &mut print).unwrap();
+            assert!(print == run(&file), "file {index} of seed {seed}");
+        }
+    }
+}
+
+/// Any record in range stays in range and keeps its settings.
+#[test]
+fn lent_records_stay_in_range() {
+    let mut dice = Dice::new(9, 9);
+    for _ in 0..300_000 {
+        let mut below = |limit: u32| dice.within(0, limit);
+        let lent = Record {
+            ops_1: below(65_535),
+            ops_2: below(31),
+            wait: below(600_000),
+            pulse: below(600_000),
+            mode: below(2),
+            last_sure: below(2),
+            position: below(2),
+            command: below(7),
+            sum: below(599_999),
+            end: below(3),
+            output: below(2),
+            pulse_sum: below(599_999),
+            flags: below(16_383),
+            previous: below(131_071),
+        };
+        let (word, period) = (below(131_071), 1 + below(9_999));
+        let mut record = lent;
+        scan_one(&mut record, word, period).unwrap();
+        assert!(record.in_range(), "{lent:?} {word} {period}");
+        let settings = |r: &Record| [r.ops_1, r.ops_2, r.wait, r.pulse];
+        assert_eq!(settings(&record), settings(&lent));
+        assert_eq!(record.previous, word);
+        // Idle sums.
+        if lent.command == 0 && record.command == 0 {
+            assert_eq!(record.sum, lent.sum);
+        }
+        if lent.output == 0 && record.output == 0 {
+            assert_eq!(record.pulse_sum, lent.pulse_sum);
+        }
+    }
+}
+
+/// Files come from seed and number alone, and hold what they should.
+#[test]
+fn the_files_are_rich() {
+    assert_eq!(story::file(5, 12), story::file(5, 12));
+    assert_ne!(story::file(5, 12), story::file(6, 12));
+    let mut tally = Tally::default();
+    for index in 0..5000 {
+        run_watched(&story::file(1, index), |_, result| tally.line(result));
+    }
+    for refusal in [1, 2, 3, 4, 5, 7, 8, 9, 10] {
+        assert!(tally.refused[refusal] >= 15, "refusal {refusal}: {}", tally.refused[refusal]);
+    }
+    assert_eq!(tally.refused[6], 0);
+    for command in 0..7 {
+        assert!(tally.issued[command] > 500);
+        assert!(tally.confirmed[command] > 100);
+        assert!(tally.overdue[command] > 100);
+        assert!(command == 0 || tally.displaced[command] > 100);
+    }
+    assert!(tally.acknowledged.iter().chain(&tally.modes).chain(&tally.dropped).all(|count| *count > 300));
+}
+
+#[test]
+fn long_files_have_their_length() {
+    let long = |seed| (0..5000).filter(|i| story::is_long(*i)).map(move |i| story::file(seed, i).len());
+    let lengths: Vec<usize> = (1..=20).flat_map(long).collect();
+    assert!(lengths.contains(&65_536) && lengths.contains(&65_537));
+    for motors in [1, 32] {
+        let file = story::rich(5, motors);
+        assert!(file.len() <= 65_536 && file.len() > 64_000);
+        assert!(!run(&file).windows(2).any(|pair| pair == b"E,"));
+    }
+}
+
+/// A difference is cut down to what shows it.
+#[test]
+fn shrinking() {
+    let file = b"M,1,193,0,500,300\nI,1,32\nS,100\nI,1,4128\nS,100\nI,1,16\nS,100\n";
+    let mut shows = |trial: &[u8]| trial.windows(4).any(|part| part == b"4128");
+    assert_eq!(shrink::shrink(file, 10_000, &mut shows), b"4128");
+    let mut three_lines = |trial: &[u8]| trial.iter().filter(|byte| **byte == b'\n').count() >= 3;
+    assert_eq!(shrink::shrink(file, 10_000, &mut three_lines), b"\n\n\n");
+    assert_eq!(shrink::shrink(file, 0, &mut shows), file);
+}
