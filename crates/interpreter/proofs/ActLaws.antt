@@ -118,3 +118,10 @@ module _ (b : Bench) (is : length (b .motors) ≡ 32) (js : length (b .words) �
         ← take-used (b .count) (b .motors) is,
         ← take-used (b .count) (b .words) js,
       )
+
+  -- the same, as a scan of the parts answers it
+  pub scanned-state : (period refusal : ℕ) (records : List Motor) → refusal ≡ partRefusal (b .motors) (min (b .count) mostMotors) (b .words) period
+      → records ≡ partAfter (b .motors) (min (b .count) mostMotors) (b .words) period → refusal ≡ 0
+      → viewOf (record { motors = records; words = b .words; count = b .count; scans = nextNumber (b .scans) }) ≡ stateAfter (viewOf b) (S period)
+  scanned-state period refusal records e f z =
+      rw f (scan-state period) ∙ sym (accepted (viewOf b) (S period) (sym (scan-refusal period) ∙ sym e ∙ z))

@@ -1,30 +1,34 @@
 -- How the lines that were taken advance the print. Assumes nothing.
-use Prim.Native.Nat.{ℕ, _+_, _-_, _<_, _≤_, min}
+use Prim.Native.Nat.{ℕ, _+_, _-_, _*_, _<_, _≤_, min}
 use mathlib.Core.Path.{_≡_, refl, sym, ap, _∙_}
 use mathlib.Core.Bool.{Bool, true, false, _&&_}
 use mathlib.Core.List.{List, [], _∷_, _++_, append-nil, append-assoc}
 use native.Mathlib.Omega.{arith}
 use lib.Dec.{leb}
-use lib.ListN.{length, length-append}
+use lib.ListN.{length, take, length-append}
 use borrow.Author.Tests.{leb-true, leb-false}
-use Rattle.rules.specs.Refusals.{mostMotors}
-use Rattle.rules.proofs.Tables.{and-true}
+use Rattle.rules.specs.Refusals.{mostMotors, partRefusal, partAfter}
+use Rattle.rules.specs.declared.Motor.{Motor}
+use Rattle.rules.proofs.Tables.{and-true, length-part}
 use Rattle.sheet.specs.declared.Request.{Request}
-use Rattle.sheet.proofs.RequestLaws.{Step}
+use Rattle.sheet.specs.declared.Request.the-variants.{Scan as S}
+use Rattle.sheet.specs.declared.Next.the-variants.{Taken}
+use Rattle.sheet.specs.Grammar.{nextAt}
+use Rattle.sheet.proofs.RequestLaws.{Step, taken as taken-step}
 use Rattle.report.specs.Put.{Put}
 use Rattle.report.specs.Print.{refusalOf}
-use Rattle.report.proofs.PutLaws.{put-none, then}
+use Rattle.report.proofs.PutLaws.{put-none, put-length, then}
 use Rattle.report.proofs.PrintLaws.{refusal-length}
 use Rattle.interpreter.specs.State.{State, emptyState, nextNumber, withWords, refusalFor, changed, stateAfter, viewOf}
-use Rattle.interpreter.specs.Print.{answerOf, printOf}
+use Rattle.interpreter.specs.Print.{rowsOf, answerOf, printOf}
 use Rattle.interpreter.specs.Advance.{restFrom, restOf, mostPut, Begin, Advance, Fill}
-use Rattle.interpreter.specs.Inputs.{Run}
+use Rattle.interpreter.specs.Inputs.{Run, Scans, Room}
 use Rattle.interpreter.specs.declared.Bench.{Bench}
 use Rattle.interpreter.specs.declared.Acted.{Acted}
 use Rattle.interpreter.specs.declared.inputs.Inputs.{Inputs}
 use Rattle.interpreter.specs.declared.Sitting.{Sitting}
 use Rattle.interpreter.specs.declared.Advanced.{Advanced}
-use Rattle.interpreter.proofs.ActLaws.{accepted, used, held}
+use Rattle.interpreter.proofs.ActLaws.{accepted, used, scan-refusal, scanned-state}
 use Rattle.interpreter.proofs.PrintLaws.{answer-length, rest-past, rest-end, rest-accepted, rest-refused, print-long, print-rest}
 
 -- a bench at a place of a file
@@ -120,6 +124,66 @@ after-run {s = s} n is run a =
       further = λ l. omega (arith, run .onward, a .further (run .within l));
     }
 
+-- ---- runs of I and S lines
+
+module _ {file : List ℕ} {s : Sitting} {out : List ℕ} {to last : ℕ} where
+  pub scans-none : to ≤ last → Scans file s out to last out (standing (s .bench) (s .at) (s .line) to)
+  scans-none h =
+      record {
+        piece = [];
+        put = put-none;
+        fits = omega arith;
+        rest = refl;
+        onward = omega arith;
+        within = λ l. l;
+      }
+
+  -- a line more
+  scans-line-of : {here : Sitting} {after later : List ℕ} {n : ℕ} {t : Advanced} → Scans file s out to last after (record { sitting = here; to = n })
+      → n ≤ last → last + mostPut ≤ length out → here .at < t .sitting .at → t .sitting .at ≤ length file → Advance file here after n later t
+      → Scans file s out to last later t
+  scans-line-of r h room further within a =
+      record {
+        piece = r .piece ++ a .piece;
+        put = then (r .put) (a .put);
+        fits = omega (arith, length-append (r .piece) (a .piece), r .fits, r .put .place, a .short);
+        rest = r .rest ∙ ap (λ (l : List ℕ). r .piece ++ l) (a .rest) ∙ sym (append-assoc (r .piece) (a .piece) _);
+        onward = omega (arith, r .onward);
+        within = λ l. within;
+      }
+
+  module _ {here : Sitting} {after : List ℕ} {n : ℕ} (r : Scans file s out to last after (record { sitting = here; to = n })) where
+    -- a run of I lines more
+    pub scans-inputs : (i : Inputs) → length (here .bench .motors) ≡ 32 → Run file (min (here .bench .count) mostMotors) (here .bench .words) (here .at) (here .line) i
+        → Scans file s out to last after (record { sitting = afterRun here i; to = n })
+    unfolding withWords
+    scans-inputs i is run =
+        record {
+          piece = r .piece;
+          put = r .put;
+          fits = r .fits;
+          rest = r .rest ∙ ap (λ (l : List ℕ). r .piece ++ l) (run .same (viewOf (here .bench)) (here .bench .count) (used (here .bench .count) (here .bench .motors) is) refl);
+          onward = omega (arith, r .onward, run .onward);
+          within = λ l. run .within (r .within l);
+        }
+
+    -- a run of I lines and an S line more: `records` are the motors after its scan
+    pub scans-more : (i : Inputs) {period next refusal m : ℕ} {records : List Motor} {later : List ℕ} → length (here .bench .motors) ≡ 32
+        → length (here .bench .words) ≡ 32 → Run file (min (here .bench .count) mostMotors) (here .bench .words) (here .at) (here .line) i
+        → nextAt file (i .at) ≡ Taken (S period) next → refusal ≡ partRefusal (here .bench .motors) (min (here .bench .count) mostMotors) (i .words) period
+        → records ≡ partAfter (here .bench .motors) (min (here .bench .count) mostMotors) (i .words) period → refusal ≡ 0 → n ≤ last → last + mostPut ≤ length out
+        → Put after n (rowsOf (nextNumber (here .bench .scans)) 1 (take (here .bench .count) records)) later m
+        → Scans file s out to last later
+        (standing (record { motors = records; words = i .words; count = here .bench .count; scans = nextNumber (here .bench .scans) }) next (nextNumber (i .line)) m)
+    unfolding answerOf
+    scans-more i {period} {next} {refusal} {m} {records} is js run found e f z h room p =
+        let b = afterRun here i .bench in
+        let line = taken-step file (i .at) (S period) next found in
+        let js₁ = run .size ∙ js in
+        scans-line-of (scans-inputs i is run) h room (line .further) (line .within)
+        (goes-on {s = afterRun here i} line (record { refusal = refusal; bench = record { motors = records; words = i .words; count = here .bench .count; scans = nextNumber (here .bench .scans) } })
+        (e ∙ scan-refusal b is js₁ period) (scanned-state b is js₁ period refusal records e f z) (ap length f ∙ length-part (here .bench .motors) (min (here .bench .count) mostMotors) (i .words) period ∙ is) z p)
+
 -- ---- a buffer filled line by line
 
 pub record Filling (file : List ℕ) (s : Sitting) (out : List ℕ) (here : Sitting) (after : List ℕ) (to : ℕ) : Type 0 where
@@ -134,37 +198,56 @@ module _ {file : List ℕ} {s : Sitting} {out : List ℕ} where
   pub filling-none : Filling file s out s out 0
   filling-none = record { done = []; put = put-none; fits = omega arith; rest = refl; onward = omega arith; moved = λ l. absurd (omega arith) }
 
-  pub none-filled : length out < mostPut → Fill file s out out (record { sitting = s; to = 0 })
+  pub none-filled : length out < 2 * mostPut → Fill file s out out (record { sitting = s; to = 0 })
   none-filled h = record { piece = []; put = put-none; fits = omega arith; rest = refl; further = λ l. absurd (omega arith) }
 
   module _ {here : Sitting} {after : List ℕ} {to : ℕ} (f : Filling file s out here after to) where
-    pub filling-more : {later : List ℕ} {r : Advanced} → Advance file here after to later r → (leb (here .at) (length file) && leb to (length out - mostPut)) ≡ true
-        → mostPut ≤ length out → Filling file s out (r .sitting) later (r .to)
-    filling-more a t room =
-        let b = and-true (leb (here .at) (length file)) (leb to (length out - mostPut)) t in
-        let i = leb-true (here .at) (length file) (b .0) in
-        let j = leb-true to (length out - mostPut) (b .1) in
+    -- whether lines are left, and room for a run and one piece more
+    test : Bool
+    test = leb (here .at) (length file) && leb to (length out - 2 * mostPut)
+
+    taken : test ≡ true → (here .at ≤ length file) × (to ≤ length out - 2 * mostPut)
+    unfolding test
+    taken t =
+        let b = and-true (leb (here .at) (length file)) (leb to (length out - 2 * mostPut)) t in
+        (leb-true (here .at) (length file) (b .0), leb-true to (length out - 2 * mostPut) (b .1))
+
+    pub room-left : (leb (here .at) (length file) && leb to (length out - 2 * mostPut)) ≡ true → 2 * mostPut ≤ length out → Room after to (length out - 2 * mostPut)
+    unfolding test
+    room-left t room = record { begins = taken t .1; holds = omega (arith, put-length (f .put)) }
+
+    -- a run, and one line more
+    pub filling-more : {between later : List ℕ} {q r : Advanced} → Scans file here after to (length out - 2 * mostPut) between q
+        → Advance file (q .sitting) between (q .to) later r → (leb (here .at) (length file) && leb to (length out - 2 * mostPut)) ≡ true
+        → 2 * mostPut ≤ length out → Filling file s out (r .sitting) later (r .to)
+    unfolding test
+    filling-more c a t room =
+        let b = taken t in
+        let more = then (c .put) (a .put) in
+        let long = length-append (f .done) (c .piece ++ a .piece) in
+        let longer = length-append (c .piece) (a .piece) in
+        let far = a .further (c .within (b .0)) in
         record {
-          done = f .done ++ a .piece;
-          put = then (f .put) (a .put);
-          fits = omega (arith, length-append (f .done) (a .piece), f .fits, f .put .place, a .short);
-          rest = f .rest ∙ ap (λ (l : List ℕ). f .done ++ l) (a .rest) ∙ sym (append-assoc (f .done) (a .piece) _);
-          onward = omega (arith, f .onward, a .further i);
-          moved = λ l. omega (arith, f .onward, a .further i);
+          done = f .done ++ (c .piece ++ a .piece);
+          put = then (f .put) more;
+          fits = omega (arith, long, longer, f .fits, f .put .place, c .fits, a .short);
+          rest = f .rest ∙ ap (λ (l : List ℕ). f .done ++ l) (c .rest ∙ ap (λ (l : List ℕ). c .piece ++ l) (a .rest) ∙ sym (append-assoc (c .piece) (a .piece) _)) ∙ sym (append-assoc (f .done) (c .piece ++ a .piece) _);
+          onward = omega (arith, f .onward, c .onward, far);
+          moved = λ l. omega (arith, f .onward, c .onward, far);
         }
 
-    pub filled : (leb (here .at) (length file) && leb to (length out - mostPut)) ≡ false → Fill file s out after (record { sitting = here; to = to })
+    pub filled : (leb (here .at) (length file) && leb to (length out - 2 * mostPut)) ≡ false → Fill file s out after (record { sitting = here; to = to })
     filled t =
         record {
           piece = f .done;
           put = f .put;
           fits = f .fits;
           rest = f .rest;
-          further = λ room l. go l (leb (here .at) (length file)) refl (leb to (length out - mostPut)) refl t;
+          further = λ room l. go l (leb (here .at) (length file)) refl (leb to (length out - 2 * mostPut)) refl t;
         }
       where
-        go : s .at ≤ length file → (a : Bool) → leb (here .at) (length file) ≡ a → (b : Bool) → leb to (length out - mostPut) ≡ b → (a && b) ≡ false
+        go : s .at ≤ length file → (a : Bool) → leb (here .at) (length file) ≡ a → (b : Bool) → leb to (length out - 2 * mostPut) ≡ b → (a && b) ≡ false
             → s .at < here .at
         go l true p true q e = absurd (let z : _≡_ {A = Bool} true false = e in let y : _≡_ {A = ℕ} 0 1 = cc in omega arith)
-        go l true p false q e = f .moved (omega (arith, leb-false to (length out - mostPut) q))
+        go l true p false q e = f .moved (omega (arith, leb-false to (length out - 2 * mostPut) q))
         go l false p b q e = omega (arith, leb-false (here .at) (length file) p)

@@ -3,7 +3,7 @@ use Prim.Native.Nat.{ℕ, _-_, _<_, _≤_, min}
 use mathlib.Core.Path.{_≡_, refl, sym, ap, _∙_}
 use mathlib.Core.List.{List}
 use native.Mathlib.Omega.{arith}
-use lib.ListN.{length, take, set}
+use lib.ListN.{length, take, set, length-set}
 use lib.Seq.{take-set-lt}
 use Rattle.rules.specs.Refusals.{mostMotors}
 use Rattle.sheet.specs.Grammar.{nextAt}
@@ -34,7 +34,7 @@ word-rest file words at next k number word held t count s h e f =
 
 module _ {file words₀ : List ℕ} {held at₀ line₀ : ℕ} where
   pub run-none : Run file held words₀ at₀ line₀ (record { words = words₀; at = at₀; line = line₀ })
-  run-none = record { same = λ t count e f. refl; onward = omega arith; within = λ l. l }
+  run-none = record { same = λ t count e f. refl; size = refl; onward = omega arith; within = λ l. l }
 
   -- one line more
   pub run-more : {words : List ℕ} {at line number word next : ℕ} → Run file held words₀ at₀ line₀ (record { words = words; at = at; line = line })
@@ -44,6 +44,7 @@ module _ {file words₀ : List ℕ} {held at₀ line₀ : ℕ} where
       let s = taken file at (I number word) next n in
       record {
         same = λ t count e f. r .same t count e f ∙ word-rest file words at next line number word held t count s h e f;
+        size = length-set words (number - 1) word ∙ r .size;
         onward = omega (arith, r .onward, s .further);
         within = λ l. s .within;
       }

@@ -1,6 +1,6 @@
 -- The pieces that `begin` and `advance` put, one call after another up to the end, are together the whole print; and so are those of
 -- `fill`, each of which stands whole at the buffer's start. The calls come to an end. Assumes nothing.
-use Prim.Native.Nat.{ℕ, suc, _+_, _-_, _<_, _≤_}
+use Prim.Native.Nat.{ℕ, suc, _+_, _-_, _*_, _<_, _≤_}
 use mathlib.Core.Path.{_≡_, sym, ap, _∙_}
 use mathlib.Core.List.{List, [], _∷_, _++_}
 use native.Mathlib.Omega.{arith}
@@ -21,7 +21,7 @@ pub data Calls (file : List ℕ) : Sitting → List (List ℕ) → Type 0 where
   ended : {s : Sitting} → length file < s .at → Calls file s []
   one-line : {s : Sitting} {out after : List ℕ} {to : ℕ} {r : Advanced} {ps : List (List ℕ)} → s .at ≤ length file
       → (a : Advance file s out to after r) → Calls file (r .sitting) ps → Calls file s (a .piece ∷ ps)
-  one-buffer : {s : Sitting} {out after : List ℕ} {r : Advanced} {ps : List (List ℕ)} → s .at ≤ length file → mostPut ≤ length out
+  one-buffer : {s : Sitting} {out after : List ℕ} {r : Advanced} {ps : List (List ℕ)} → s .at ≤ length file → 2 * mostPut ≤ length out
       → (f : Fill file s out after r) → Calls file (r .sitting) ps → Calls file s (f .piece ∷ ps)
 
 unfoldable pub together : List (List ℕ) → List ℕ

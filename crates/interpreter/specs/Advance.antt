@@ -1,5 +1,5 @@
 -- What one call of `advance` does: it takes the next lines of a file, and puts what they print into the lent buffer.
-use Prim.Native.Nat.{ℕ, _<_, _≤_}
+use Prim.Native.Nat.{ℕ, _*_, _<_, _≤_}
 use mathlib.Core.Path.{_≡_}
 use mathlib.Core.List.{List, [], _++_}
 use lib.Dec.{ltb}
@@ -44,4 +44,4 @@ pub record Fill (file : List ℕ) (s : Sitting) (out after : List ℕ) (r : Adva
   pub put : Put out 0 piece after (r .to)
   pub fits : length piece ≤ length out
   pub rest : restOf file s ≡ piece ++ restOf file (r .sitting)
-  pub further : mostPut ≤ length out → s .at ≤ length file → s .at < r .sitting .at
+  pub further : 2 * mostPut ≤ length out → s .at ≤ length file → s .at < r .sitting .at

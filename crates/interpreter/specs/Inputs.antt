@@ -1,17 +1,22 @@
 -- A run of accepted I lines, which changes nothing but the words: how `advance` takes them.
-use Prim.Native.Nat.{ℕ, _≤_, min}
+use Prim.Native.Nat.{ℕ, _+_, _*_, _≤_, min}
 use mathlib.Core.Path.{_≡_}
-use mathlib.Core.List.{List}
+use mathlib.Core.List.{List, _++_}
 use lib.ListN.{length, take}
 use Rattle.rules.specs.Refusals.{mostMotors}
 use Rattle.sheet.specs.Grammar.{nextAt}
-use Rattle.sheet.specs.declared.Request.the-variants.{Input as I}
+use Rattle.sheet.specs.declared.Request.the-variants.{Input as I, Scan as S}
 use Rattle.sheet.specs.declared.Next.the-variants.{Taken}
 use Rattle.interpreter.specs.State.{State, inputRefusal, withWords}
-use Rattle.interpreter.specs.Advance.{restFrom}
+use Rattle.interpreter.specs.Advance.{restFrom, restOf, mostPut}
+use Rattle.report.specs.Put.{Put}
 use Rattle.interpreter.specs.declared.inputs.NextInput.{NextInput}
 use Rattle.interpreter.specs.declared.inputs.NextInput.the-variants.{Word, Other}
 use Rattle.interpreter.specs.declared.inputs.Inputs.{Inputs}
+use Rattle.interpreter.specs.declared.scans.NextScan.{NextScan}
+use Rattle.interpreter.specs.declared.scans.NextScan.the-variants.{Period, Other as Stop}
+use Rattle.interpreter.specs.declared.Sitting.{Sitting}
+use Rattle.interpreter.specs.declared.Advanced.{Advanced}
 
 -- The line at a place is an I line that is accepted where so many motors are held; of any other answer nothing is said.
 abbrev pub Found : List ℕ → ℕ → ℕ → NextInput → Type 0
@@ -22,5 +27,25 @@ Found file held at Other = Unit {0}
 pub record Run (file : List ℕ) (held : ℕ) (words : List ℕ) (at line : ℕ) (r : Inputs) : Type 0 where
   pub same : (t : State) (count : ℕ) → length (t .motors) ≡ held → min count mostMotors ≡ held
       → restFrom file at (withWords t (take count words)) line ≡ restFrom file (r .at) (withWords t (take count (r .words))) (r .line)
+  pub size : length (r .words) ≡ length words
   pub onward : at ≤ r .at
   pub within : at ≤ length file → r .at ≤ length file
+
+-- The line at a place is an S line; of any other answer nothing is said.
+abbrev pub FoundScan : List ℕ → ℕ → NextScan → Type 0
+FoundScan file at (Period period next) = nextAt file at ≡ Taken (S period) next
+FoundScan file at Stop = Unit {0}
+
+-- A run of accepted I and S lines: what they print is put, from a place up to `last` on, so that they need room for one piece after that.
+pub record Scans (file : List ℕ) (s : Sitting) (out : List ℕ) (to last : ℕ) (after : List ℕ) (r : Advanced) : Type 0 where
+  pub piece : List ℕ
+  pub put : Put out to piece after (r .to)
+  pub fits : to + length piece ≤ last + mostPut
+  pub rest : restOf file s ≡ piece ++ restOf file (r .sitting)
+  pub onward : s .at ≤ r .sitting .at
+  pub within : s .at ≤ length file → r .sitting .at ≤ length file
+
+-- what a run needs of the buffer
+pub record Room (out : List ℕ) (to last : ℕ) : Type 0 where
+  pub begins : to ≤ last
+  pub holds : last + 2 * mostPut ≤ length out

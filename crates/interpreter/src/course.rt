@@ -12,6 +12,7 @@ use crate::acts::in_use;
 use crate::acts::next_number;
 use crate::inputs::take_inputs;
 use crate::prints::put_answer;
+use crate::scans::take_scans;
 use report::put_refusal;
 use sheet::Next;
 use sheet::Request;
@@ -103,14 +104,16 @@ pub fn advance(file: &[u8], s: Sitting, out: &mut [u8], to: usize) -> Advanced
 pub fn fill(file: &[u8], s: Sitting, out: &mut [u8]) -> Advanced
     ensures { λ r. ⌜ Fill (now (file .entry)) s (now (out .entry)) (now (out .exit)) r ⌝ }
 {
-    if out.len() < MOST_PUT {
+    if out.len() < 2 * MOST_PUT {
         return Advanced { sitting: s, to: 0 };
     }
-    let last = out.len() - MOST_PUT;
+    let last = out.len() - 2 * MOST_PUT;
     let mut here = s;
     let mut to: usize = 0;
     while (here.at <= file.len()) & (to <= last) {
-        let a = advance(file, here, out, to);
+        let run = take_scans(file, here, out, to, last);
+        let next = run.sitting;
+        let a = take_line(file, next, out, run.to);
         here = a.sitting;
         to = a.to;
     }

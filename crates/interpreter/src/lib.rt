@@ -4,6 +4,7 @@ mod acts;
 mod course;
 mod inputs;
 mod prints;
+mod scans;
 
 pub use acts::act;
 pub use course::advance;

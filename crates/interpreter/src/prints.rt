@@ -9,6 +9,7 @@ use crate::acts::in_use;
 use report::Row;
 use rules::Motor;
 use sheet::Request;
+use table::MOST_MOTORS;
 
 // A motor's line after a scan.
 fn row(scan: u32, number: u32, m: Motor) -> Row
@@ -27,15 +28,21 @@ fn row(scan: u32, number: u32, m: Motor) -> Row
 }
 
 // One line a motor, by rising number.
-fn put_rows(out: &mut [u8], at: usize, b: Bench) -> usize
-    ensures { λ r. ⌜ Put (now (out .entry)) at (rowsOf (b .scans) 1 (take (b .count) (b .motors))) (now (out .exit)) r ⌝ }
+pub fn put_rows(
+    out: &mut [u8],
+    at: usize,
+    motors: [Motor; MOST_MOTORS],
+    count: usize,
+    scans: u32,
+) -> usize
+    ensures { λ r. ⌜ Put (now (out .entry)) at (rowsOf scans 1 (take count motors)) (now (out .exit)) r ⌝ }
 {
-    let held = in_use(b.count);
+    let held = in_use(count);
     let mut to = at;
     let mut i: usize = 0;
     while i < held {
-        let m = b.motors[i];
-        let r = row(b.scans, i as u32 + 1, m);
+        let m = motors[i];
+        let r = row(scans, i as u32 + 1, m);
         to = report::put_row(out, to, r);
         i += 1;
     }
@@ -49,7 +56,10 @@ pub fn put_answer(out: &mut [u8], at: usize, b: Bench, request: Request) -> usiz
     match request {
         Request::Motor { .. } => at,
         Request::Input { .. } => at,
-        Request::Scan { .. } => put_rows(out, at, b),
+        Request::Scan { .. } => {
+            let motors = b.motors;
+            put_rows(out, at, motors, b.count, b.scans)
+        }
         Request::Refused => at,
     }
 }

@@ -35,7 +35,7 @@ same-length c = search needs
 
 returns-3 : tie.Need-returns-3
 unfolding answerOf
-returns-3 c = rw (c .before .before .before .before .enum-told3 .given .1) (c .before .before .put-rows .ensures)
+returns-3 c = rw (c .before .before .before .before .before .enum-told3 .given .1) (c .before .before .put-rows .ensures)
 
 returns-4 : tie.Need-returns-4
 unfolding answerOf

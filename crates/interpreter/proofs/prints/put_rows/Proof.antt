@@ -2,7 +2,7 @@ use borrow.Author.Needs.{needs}
 use native.Mathlib.Omega.{arith}
 use Prim.Native.Nat.{_-_, _≤_, min}
 use mathlib.Core.Path.{_≡_}
-use lib.ListN.{length, length-map, take}
+use lib.ListN.{length, take}
 use Rattle.rules.specs.Refusals.{mostMotors}
 use Rattle.report.specs.Put.{Put}
 use Rattle.report.proofs.PutLaws.{then, put-length, put-none}
@@ -28,14 +28,14 @@ zeros =
       output = record { state = 0; sum = 0 };
     }
 
-motors-is : {I : tie.InvT-loop} {m : tie.MeasureT-loop} (c : tie.Start I m) → length (c .args .t3 .motors) ≡ 32
-motors-is c = simp length-map at (c .good .1 .1 .0 .1 .1 .0 .1 .0 .1)
+motors-is : {I : tie.InvT-loop} {m : tie.MeasureT-loop} (c : tie.Start I m) → length (c .args .t3) ≡ 32
+motors-is c = c .good .1 .1 .0 .1 .0 .1
 
 abbrev Inv-loop : tie.InvT-loop
-Inv-loop out₀ at b held to₀ i₀ out to i = (i ≤ held) × Put out₀ at (rowsOf (b .scans) 1 (take i (b .motors))) out to
+Inv-loop out₀ at count scans motors held to₀ i₀ out to i = (i ≤ held) × Put out₀ at (rowsOf scans 1 (take i motors)) out to
 
 abbrev μ-loop : tie.MeasureT-loop
-μ-loop out₀ at b held to₀ i₀ out to i = held - i
+μ-loop out₀ at count scans motors held to₀ i₀ out to i = held - i
 
 in-use-requires : tie.Need-in-use-requires Inv-loop μ-loop
 in-use-requires c κs = search needs
@@ -47,9 +47,9 @@ mul-m : tie.Need-mul-m Inv-loop μ-loop
 unfolding mostMotors
 mul-m c = omega arith
 
-element-copy-out-m : tie.Need-element-copy-out-m Inv-loop μ-loop
+array-copy-out-m : tie.Need-array-copy-out-m Inv-loop μ-loop
 unfolding mostMotors
-element-copy-out-m c = omega arith
+array-copy-out-m c = omega arith
 
 cast-row : tie.Need-cast-row Inv-loop μ-loop
 unfolding mostMotors
@@ -78,7 +78,7 @@ loop-again c =
     let l = c .before .before .before .before .before .before .before .loop in
     let e = c .before .before .before .before .before .before .before .before .before .before in (
       omega arith,
-      rw (rows-more (e .args .t3 .scans) (l .i) (e .args .t3 .motors) zeros (omega (arith, motors-is e)))
+      rw (rows-more (e .args .scans) (l .i) (e .args .t3) zeros (omega (arith, motors-is e)))
           (rw (c .before .before .before .before .row .ensures) at (then (l .inv .1) (c .before .before .put-row .ensures))),
     )
 
@@ -89,8 +89,8 @@ returns : tie.Need-returns Inv-loop μ-loop
 returns c =
     let l = c .before .loop in
     let e = c .before .before .before .before in
-    let n : min (e .args .t3 .count) mostMotors ≡ l .i = omega arith in
-    rw (take-used (e .args .t3 .count) (e .args .t3 .motors) (motors-is e), n) (l .inv .1)
+    let n : min (e .args .count) mostMotors ≡ l .i = omega arith in
+    rw (take-used (e .args .count) (e .args .t3) (motors-is e), n) (l .inv .1)
 
 pub put-rows-spec : {M : Type 1} → statement M
 put-rows-spec =
@@ -101,7 +101,7 @@ put-rows-spec =
     in-use-requires
     loop-holds
     mul-m
-    element-copy-out-m
+    array-copy-out-m
     cast-row
     add-row
     row-requires
