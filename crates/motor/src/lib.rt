@@ -9,7 +9,11 @@ use rules::Status;
 use words::choose;
 
 mod output;
+mod resting;
 mod steps;
+
+pub use resting::is_resting;
+pub use resting::rest;
 
 // The limits of the settings, of the record, of a period and of an input word.
 const OPS1_MAX: u32 = 65535;

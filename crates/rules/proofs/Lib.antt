@@ -1,3 +1,4 @@
 pub mod Range
 pub mod Tables
 pub mod Quiet
+pub mod Resting
