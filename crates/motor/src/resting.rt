@@ -2,13 +2,11 @@
 ghost use mathlib.Core.Path.{_≡_};
 ghost use Rattle.rules.specs.Resting.{rests, restedStatus};
 use crate::output::is_running;
+use crate::steps::idle_status;
 use rules::Output;
 use rules::Settings;
 use rules::Status;
-use status::faults::form_flags;
 use status::issue::keep_word;
-use status::switches::begin;
-use status::switches::switches;
 use words::masked_out;
 
 // Whether no command is under way, no pulse runs and no bit of the word has risen.
@@ -22,6 +20,5 @@ pub fn is_resting(s: Settings, v: Status, o: Output, word: u32) -> bool
 pub fn rest(s: Settings, v: Status, word: u32) -> Status
     ensures { λ r. ⌜ r ≡ restedStatus s v word ⌝ }
 {
-    let w = form_flags(s, switches(s, begin(v, word), word), word);
-    keep_word(w, word)
+    keep_word(idle_status(s, v, word), word)
 }

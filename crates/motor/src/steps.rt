@@ -2,7 +2,7 @@
 ghost use mathlib.Core.Path.{_≡_};
 ghost use Rattle.rules.specs.Scans.{SumsFit, Steppable};
 ghost use Rattle.rules.specs.Record.{withStatus};
-ghost use Rattle.rules.specs.Steps.{step3, step4, issue, step9, steps1to5, steps6to10, step};
+ghost use Rattle.rules.specs.Steps.{status1, status2, step3, step4, status5, issue, step9, steps1to5, steps6to10, step};
 use crate::output::choose_output;
 use crate::output::is_dropped;
 use crate::output::is_running;
@@ -10,6 +10,7 @@ use crate::output::is_time_up;
 use crate::output::none;
 use crate::output::output_after;
 use rules::Motor;
+use rules::Settings;
 use rules::Status;
 use status::choice::acknowledge;
 use status::choice::to_issue;
@@ -86,13 +87,24 @@ pub fn issue_any(m: Motor, c: u32) -> Motor
     if c == 0 { m } else { issue_command(m, c) }
 }
 
-// Steps 1 to 5.
+// Steps 1, 2 and 5.
+pub fn idle_status(s: Settings, v: Status, word: u32) -> Status
+    ensures { λ r. ⌜ r ≡ status5 s (status2 s (status1 v word) word) word ⌝ }
+{
+    form_flags(s, switches(s, begin(v, word), word), word)
+}
+
+// Steps 1 to 5. Where no command is under way and no pulse is running, steps 3 and 4 change nothing and are passed over.
 pub fn first_steps(m: Motor, word: u32, period: u32) -> Motor
     requires { ⌜ SumsFit m period ⌝ }
     ensures { λ r. ⌜ r ≡ steps1to5 m word period ⌝ }
 {
     let s = m.settings;
     let v = m.status;
+    let o = m.output;
+    if (v.command == 0) & !is_running(s, o) {
+        return with_status(m, idle_status(s, v, word));
+    }
     let begun = with_status(m, switches(s, begin(v, word), word));
     let settled = settle(add_period(begun, period), word);
     let w = settled.status;

@@ -1,5 +1,5 @@
--- A scan in which no bit of the word has risen: steps 6 to 9 leave everything as it is, so that code may pass them over.
--- Assumes nothing.
+-- Steps that leave everything as it is, so that code may pass them over: 6 to 9 where no bit of the word has risen, and 3 and 4 where no
+-- command is under way and no pulse is running. Assumes nothing.
 use Prim.Native.Nat.{ℕ, _/_, _%_, _^_, _<_}
 use mathlib.Core.Path.{_≡_, refl, sym, ap, _∙_}
 use mathlib.Core.Bool.{Bool, true, false, not, _&&_, and-false}
