@@ -4,6 +4,12 @@ ghost use mathlib.Core.List.{[], _∷_};
 ghost use Rattle.report.specs.Put.{Put};
 ghost use Rattle.report.specs.Print.{decimal, afterComma, lineOf, rowOf, refusalOf};
 
+mod rows;
+
+use rows::has_room;
+use rows::has_short_states;
+use rows::store_row;
+
 const COMMA: u8 = b',';
 
 const LF: u8 = b'\n';
@@ -72,6 +78,12 @@ pub fn put_line(out: &mut [u8], at: usize, letter: u8, numbers: &[u32]) -> usize
 pub fn put_row(out: &mut [u8], at: usize, row: Row) -> usize
     ensures { λ r. ⌜ Put (now (out .entry)) at (rowOf row) (now (out .exit)) r ⌝ }
 {
+    // nearly all rows go this way
+    if has_room(out.len(), at) {
+        if has_short_states(row) {
+            return store_row(out, at, row);
+        }
+    }
     let numbers = [
         row.scan,
         row.number,
