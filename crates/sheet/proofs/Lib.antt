@@ -2,4 +2,5 @@ pub mod SplitLaws
 pub mod LineLaws
 pub mod NumberLaws
 pub mod RequestLaws
+pub mod PlaceLaws
 pub mod Vectors

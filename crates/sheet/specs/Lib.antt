@@ -2,4 +2,5 @@ pub mod Split
 pub mod Lines
 pub mod Number
 pub mod Grammar
+pub mod Places
 pub mod Opened

@@ -5,7 +5,7 @@ ghost use Rattle.sheet.specs.Split.{fieldOf, fieldCount};
 use crate::lines::index_from;
 use crate::lines::part;
 
-const COMMA: u8 = b',';
+pub const COMMA: u8 = b',';
 
 // The first field.
 pub fn first(rest: &[u8]) -> &[u8]

@@ -1,8 +1,9 @@
 // The bench program's file: its lines, their fields, the numbers in these, and the requests that lines make. What is read
-// is defined in specs/, for every list of bytes; every function here is equal to its definition on any input.
+// is defined in specs/, for every list of bytes; every function exported here is equal to its definition on any input.
 mod fields;
 mod lines;
 mod numbers;
+mod quick;
 mod requests;
 
 pub use fields::count_fields;
@@ -11,7 +12,7 @@ pub use lines::find_lf;
 pub use lines::next_line;
 pub use lines::part;
 pub use numbers::read_number;
-pub use requests::next_request;
+pub use quick::next_request;
 pub use requests::parse;
 pub use requests::refusal;
 

@@ -7,10 +7,10 @@ ghost use Rattle.sheet.specs.Lines.{foundLF, wellSized, lineAt};
 use crate::Found;
 use crate::Line;
 
-const LF: u8 = b'\n';
+pub const LF: u8 = b'\n';
 
 // How many bytes a line may have without its LF.
-const LONGEST: usize = 80;
+pub const LONGEST: usize = 80;
 
 // The first place from `at` on that has the byte b; the end of s, or `at` past it, if none has.
 pub fn index_from(s: &[u8], at: usize, b: u8) -> usize

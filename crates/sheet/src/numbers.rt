@@ -4,10 +4,10 @@ ghost use Rattle.sheet.specs.Number.{digitsNumber, numberOf};
 use crate::Number;
 
 // The largest number that is read.
-const LARGEST: u64 = 4294967295;
+pub const LARGEST: u64 = 4294967295;
 
 // A byte to reckon with.
-fn wide(b: u8) -> u64
+pub fn wide(b: u8) -> u64
     ensures { λ r. ⌜ r ≡ b ⌝ }
 {
     b as u64

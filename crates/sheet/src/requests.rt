@@ -15,9 +15,9 @@ use crate::numbers::read_number;
 // The first field of a line of each kind.
 const MOTOR: u8 = b'M';
 
-const INPUT: u8 = b'I';
+pub const INPUT: u8 = b'I';
 
-const SCAN: u8 = b'S';
+pub const SCAN: u8 = b'S';
 
 // The byte of a field of one byte, and 0 of any other.
 fn letter(field: &[u8]) -> u8
@@ -136,7 +136,7 @@ pub fn parse(line: &[u8]) -> Request
 
 // The request of the line at a place of a file, and the place after that line. The program stops at a refused line, so the
 // place after one is the file's end.
-pub fn next_request(file: &[u8], at: usize) -> Next
+pub fn request_at(file: &[u8], at: usize) -> Next
     ensures { λ r. ⌜ r ≡ nextAt (now (file .entry)) at ⌝ }
 {
     match next_line(file, at) {

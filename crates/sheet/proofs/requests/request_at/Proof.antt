@@ -3,8 +3,8 @@ use native.Mathlib.Omega.{arith}
 use borrow.Author.Needs.{needs}
 use Rattle.sheet.specs.Grammar.{takenAt, nextAt}
 use Rattle.sheet.proofs.LineLaws.{until-whole}
-use Rattle.sheet.proofs.requests.next_request.Statement.{statement}
-use Rattle.sheet.proofs.requests.next_request.Tie as tie
+use Rattle.sheet.proofs.requests.request_at.Statement.{statement}
+use Rattle.sheet.proofs.requests.request_at.Tie as tie
 
 add-t8 : tie.Need-add-t8
 add-t8 c =
@@ -29,8 +29,8 @@ returns-3 : tie.Need-returns-3
 unfolding nextAt takenAt
 returns-3 c = rw (sym (c .before .before .next-line .ensures) ∙ c .enum-told2 .given .1)
 
-pub next-request-spec : {M : Type 1} → statement M
-next-request-spec =
+pub request-at-spec : {M : Type 1} → statement M
+request-at-spec =
     tie.close
     (tie.spec
     (λ c κs. search needs)

@@ -1,0 +1,133 @@
+// The next request of a file. Lines of the two common kinds, I and S, are read once, where they stand in the file. What
+// cannot be read so is left to the reader of any line: a reading here may fail for any reason, but must not be wrong.
+ghost use mathlib.Core.Path.{_≡_};
+ghost use mathlib.Core.Bool.{true};
+ghost use Prim.Native.Nat.{_≤_};
+ghost use Rattle.sheet.specs.Grammar.{letter-I, letter-S, nextAt};
+ghost use Rattle.sheet.specs.Places.{isAt, isDigitAt, beginsWith, endsLine, Read};
+use crate::Next;
+use crate::Request;
+use crate::fields::COMMA;
+use crate::lines::LF;
+use crate::lines::LONGEST;
+use crate::numbers::LARGEST;
+use crate::numbers::wide;
+use crate::requests::INPUT;
+use crate::requests::SCAN;
+use crate::requests::request_at;
+
+// What is read at a place where a number may stand.
+pub enum Reading {
+    // A number, and the place after its last digit.
+    Number(u32, usize),
+    Nothing,
+}
+
+// Whether a place of a file has this byte.
+fn is_at(file: &[u8], at: usize, b: u8) -> bool
+    ensures { λ r. ⌜ r ≡ isAt (now (file .entry)) at b ⌝ }
+{
+    if at < file.len() {
+        return file[at] == b;
+    }
+    false
+}
+
+// Whether it has a digit.
+fn is_digit_at(file: &[u8], at: usize) -> bool
+    ensures { λ r. ⌜ r ≡ isDigitAt (now (file .entry)) at ⌝ }
+{
+    if at < file.len() {
+        let b = file[at];
+        return (48 <= b) & (b <= 57);
+    }
+    false
+}
+
+// The number at a place of a file. A 0 is read alone, so that no leading zero is taken: a digit after it stands where the
+// caller looks for the end of the field.
+fn number_at(file: &[u8], at: usize) -> Reading
+    ensures { λ r. ⌜ Read (now (file .entry)) at r ⌝ }
+{
+    if is_at(file, at, b'0') {
+        return Reading::Number(0, at + 1);
+    }
+    let mut value: u64 = 0;
+    let mut i = at;
+    while is_digit_at(file, i) {
+        value = value * 10 + (wide(file[i]) - 48);
+        if LARGEST < value {
+            return Reading::Nothing;
+        }
+        i += 1;
+    }
+    if value == 0 {
+        return Reading::Nothing;
+    }
+    Reading::Number(value as u32, i)
+}
+
+// Whether a field of this letter alone stands at a place of a file, and a comma after it.
+fn begins_with(file: &[u8], at: usize, letter: u8) -> bool
+    ensures { λ r. ⌜ r ≡ beginsWith (now (file .entry)) at letter ⌝ }
+{
+    if is_at(file, at, letter) {
+        return is_at(file, at + 1, COMMA);
+    }
+    false
+}
+
+// Whether an LF stands at `end`, and a line from `at` up to there is not too long.
+fn ends_line(file: &[u8], at: usize, end: usize) -> bool
+    requires { ⌜ at ≤ end ⌝ }
+    ensures { λ r. ⌜ r ≡ endsLine (now (file .entry)) at end ⌝ }
+{
+    is_at(file, end, LF) & (end - at <= LONGEST)
+}
+
+// The request of a line that begins with an S.
+fn scan_at(file: &[u8], at: usize) -> Next
+    requires { ⌜ beginsWith (now file) at letter-S ≡ true ⌝ }
+    ensures { λ r. ⌜ r ≡ nextAt (now (file .entry)) at ⌝ }
+{
+    let Reading::Number(period, end) = number_at(file, at + 2) else {
+        return request_at(file, at);
+    };
+    if ends_line(file, at, end) {
+        return Next::Taken(Request::Scan { period }, end + 1);
+    }
+    request_at(file, at)
+}
+
+// The request of a line that begins with an I.
+fn input_at(file: &[u8], at: usize) -> Next
+    requires { ⌜ beginsWith (now file) at letter-I ≡ true ⌝ }
+    ensures { λ r. ⌜ r ≡ nextAt (now (file .entry)) at ⌝ }
+{
+    let Reading::Number(number, parting) = number_at(file, at + 2) else {
+        return request_at(file, at);
+    };
+    if !is_at(file, parting, COMMA) {
+        return request_at(file, at);
+    }
+    let Reading::Number(word, end) = number_at(file, parting + 1) else {
+        return request_at(file, at);
+    };
+    if ends_line(file, at, end) {
+        return Next::Taken(Request::Input { number, word }, end + 1);
+    }
+    request_at(file, at)
+}
+
+// The request of the line at a place of a file, and the place after that line, as `request_at` gives them.
+pub fn next_request(file: &[u8], at: usize) -> Next
+    ensures { λ r. ⌜ r ≡ nextAt (now (file .entry)) at ⌝ }
+{
+    if begins_with(file, at, INPUT) {
+        return input_at(file, at);
+    }
+    if begins_with(file, at, SCAN) {
+        return scan_at(file, at);
+    }
+    request_at(file, at)
+}
