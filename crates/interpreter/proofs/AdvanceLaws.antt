@@ -1,5 +1,5 @@
 -- How the lines that were taken advance the print. Assumes nothing.
-use Prim.Native.Nat.{ℕ, _+_, _-_, _*_, _<_, _≤_, min}
+use Prim.Native.Nat.{ℕ, _+_, _-_, _<_, _≤_, min}
 use mathlib.Core.Path.{_≡_, refl, sym, ap, _∙_}
 use mathlib.Core.Bool.{Bool, true, false, _&&_}
 use mathlib.Core.List.{List, [], _∷_, _++_, append-nil, append-assoc}
@@ -11,7 +11,7 @@ use Rattle.rules.specs.Refusals.{mostMotors, partRefusal, partAfter}
 use Rattle.rules.specs.declared.Motor.{Motor}
 use Rattle.rules.proofs.Tables.{and-true, length-part}
 use Rattle.sheet.specs.declared.Request.{Request}
-use Rattle.sheet.specs.declared.Request.the-variants.{Scan as S}
+use Rattle.sheet.specs.declared.Request.the-variants.{Motor as M, Input as I, Scan as S, Refused}
 use Rattle.sheet.specs.declared.Next.the-variants.{Taken}
 use Rattle.sheet.specs.Grammar.{nextAt}
 use Rattle.sheet.proofs.RequestLaws.{Step, taken as taken-step}
@@ -21,7 +21,7 @@ use Rattle.report.proofs.PutLaws.{put-none, put-length, then}
 use Rattle.report.proofs.PrintLaws.{refusal-length}
 use Rattle.interpreter.specs.State.{State, emptyState, nextNumber, withWords, refusalFor, changed, stateAfter, viewOf}
 use Rattle.interpreter.specs.Print.{rowsOf, answerOf, printOf}
-use Rattle.interpreter.specs.Advance.{restFrom, restOf, mostPut, Begin, Advance, Fill}
+use Rattle.interpreter.specs.Advance.{restFrom, restOf, mostPut, NoScan, Begin, Advance, Fill}
 use Rattle.interpreter.specs.Inputs.{Run, Scans, Room}
 use Rattle.interpreter.specs.declared.Bench.{Bench}
 use Rattle.interpreter.specs.declared.Acted.{Acted}
@@ -100,7 +100,20 @@ module _ {file : List ℕ} {s : Sitting} {to : ℕ} {out : List ℕ} where
           further = λ l. omega (arith, line .further);
         }
 
--- ---- a run of I lines before another line
+    -- one that is no scan prints nothing
+    pub goes-on-quietly : NoScan file s → nextAt file (s .at) ≡ Taken r next → viewOf (a .bench) ≡ stateAfter (viewOf (s .bench)) r
+        → length (a .bench .motors) ≡ 32 → a .refusal ≡ 0 → Advance file s out to out (standing (a .bench) next (nextNumber (s .line)) to)
+    unfolding answerOf
+    goes-on-quietly none at e is h = goes-on e is h (rw (no-rows-of r none at (sym code ∙ h)) put-none)
+      where
+        no-rows-of : (q : Request) → NoScan file s → nextAt file (s .at) ≡ Taken q next → refusalFor (viewOf (s .bench)) q ≡ 0
+            → answerOf (viewOf (a .bench)) q ≡ []
+        no-rows-of (M number ops1 ops2 w u) none at e = refl
+        no-rows-of (I number word) none at e = refl
+        no-rows-of (S period) none at e = absurd (none period next at e)
+        no-rows-of Refused none at e = refl
+
+-- ---- runs of I and S lines
 
 -- the sitting after a run
 abbrev pub afterRun : Sitting → Inputs → Sitting
@@ -110,21 +123,6 @@ afterRun s n =
       at = n .at;
       line = n .line;
     }
-
-pub after-run : {file : List ℕ} {s : Sitting} {to : ℕ} {out after : List ℕ} {r : Advanced} (n : Inputs) → length (s .bench .motors) ≡ 32
-    → Run file (min (s .bench .count) mostMotors) (s .bench .words) (s .at) (s .line) n → Advance file (afterRun s n) out to after r
-    → Advance file s out to after r
-unfolding withWords
-after-run {s = s} n is run a =
-    record {
-      piece = a .piece;
-      put = a .put;
-      rest = run .same (viewOf (s .bench)) (s .bench .count) (used (s .bench .count) (s .bench .motors) is) refl ∙ a .rest;
-      short = a .short;
-      further = λ l. omega (arith, run .onward, a .further (run .within l));
-    }
-
--- ---- runs of I and S lines
 
 module _ {file : List ℕ} {s : Sitting} {out : List ℕ} {to last : ℕ} where
   pub scans-none : to ≤ last → Scans file s out to last out (standing (s .bench) (s .at) (s .line) to)
@@ -136,6 +134,7 @@ module _ {file : List ℕ} {s : Sitting} {out : List ℕ} {to last : ℕ} where
         rest = refl;
         onward = omega arith;
         within = λ l. l;
+        moved = λ l. absurd (omega arith);
       }
 
   -- a line more
@@ -150,6 +149,7 @@ module _ {file : List ℕ} {s : Sitting} {out : List ℕ} {to last : ℕ} where
         rest = r .rest ∙ ap (λ (l : List ℕ). r .piece ++ l) (a .rest) ∙ sym (append-assoc (r .piece) (a .piece) _);
         onward = omega (arith, r .onward);
         within = λ l. within;
+        moved = λ l. omega (arith, r .onward);
       }
 
   module _ {here : Sitting} {after : List ℕ} {n : ℕ} (r : Scans file s out to last after (record { sitting = here; to = n })) where
@@ -165,6 +165,7 @@ module _ {file : List ℕ} {s : Sitting} {out : List ℕ} {to last : ℕ} where
           rest = r .rest ∙ ap (λ (l : List ℕ). r .piece ++ l) (run .same (viewOf (here .bench)) (here .bench .count) (used (here .bench .count) (here .bench .motors) is) refl);
           onward = omega (arith, r .onward, run .onward);
           within = λ l. run .within (r .within l);
+          moved = λ l. omega (arith, r .moved l, run .onward);
         }
 
     -- a run of I lines and an S line more: `records` are the motors after its scan
@@ -198,30 +199,37 @@ module _ {file : List ℕ} {s : Sitting} {out : List ℕ} where
   pub filling-none : Filling file s out s out 0
   filling-none = record { done = []; put = put-none; fits = omega arith; rest = refl; onward = omega arith; moved = λ l. absurd (omega arith) }
 
-  pub none-filled : length out < 2 * mostPut → Fill file s out out (record { sitting = s; to = 0 })
+  pub none-filled : length out < mostPut → Fill file s out out (record { sitting = s; to = 0 })
   none-filled h = record { piece = []; put = put-none; fits = omega arith; rest = refl; further = λ l. absurd (omega arith) }
 
   module _ {here : Sitting} {after : List ℕ} {to : ℕ} (f : Filling file s out here after to) where
-    -- whether lines are left, and room for a run and one piece more
-    test : Bool
-    test = leb (here .at) (length file) && leb to (length out - 2 * mostPut)
-
-    taken : test ≡ true → (here .at ≤ length file) × (to ≤ length out - 2 * mostPut)
-    unfolding test
+    -- lines are left, and room for a piece more
+    taken : (leb (here .at) (length file) && leb to (length out - mostPut)) ≡ true → (here .at ≤ length file) × (to ≤ length out - mostPut)
     taken t =
-        let b = and-true (leb (here .at) (length file)) (leb to (length out - 2 * mostPut)) t in
-        (leb-true (here .at) (length file) (b .0), leb-true to (length out - 2 * mostPut) (b .1))
+        let b = and-true (leb (here .at) (length file)) (leb to (length out - mostPut)) t in
+        (leb-true (here .at) (length file) (b .0), leb-true to (length out - mostPut) (b .1))
 
-    pub room-left : (leb (here .at) (length file) && leb to (length out - 2 * mostPut)) ≡ true → 2 * mostPut ≤ length out → Room after to (length out - 2 * mostPut)
-    unfolding test
+    pub room-left : (leb (here .at) (length file) && leb to (length out - mostPut)) ≡ true → mostPut ≤ length out → Room after to (length out - mostPut)
     room-left t room = record { begins = taken t .1; holds = omega (arith, put-length (f .put)) }
 
+    -- a run that left no room
+    pub filled-up : {later : List ℕ} {q : Advanced} → Scans file here after to (length out - mostPut) later q → length out - mostPut < q .to
+        → (leb (here .at) (length file) && leb to (length out - mostPut)) ≡ true → mostPut ≤ length out → Fill file s out later q
+    filled-up c over t room =
+        let b = taken t in
+        record {
+          piece = f .done ++ c .piece;
+          put = then (f .put) (c .put);
+          fits = omega (arith, length-append (f .done) (c .piece), f .fits, f .put .place, c .fits);
+          rest = f .rest ∙ ap (λ (l : List ℕ). f .done ++ l) (c .rest) ∙ sym (append-assoc (f .done) (c .piece) _);
+          further = λ l m. omega (arith, f .onward, c .moved (omega (arith, b .1, over)));
+        }
+
     -- a run, and one line more
-    pub filling-more : {between later : List ℕ} {q r : Advanced} → Scans file here after to (length out - 2 * mostPut) between q
-        → Advance file (q .sitting) between (q .to) later r → (leb (here .at) (length file) && leb to (length out - 2 * mostPut)) ≡ true
-        → 2 * mostPut ≤ length out → Filling file s out (r .sitting) later (r .to)
-    unfolding test
-    filling-more c a t room =
+    pub filling-more : {between later : List ℕ} {q r : Advanced} → Scans file here after to (length out - mostPut) between q
+        → q .to ≤ length out - mostPut → Advance file (q .sitting) between (q .to) later r
+        → (leb (here .at) (length file) && leb to (length out - mostPut)) ≡ true → mostPut ≤ length out → Filling file s out (r .sitting) later (r .to)
+    filling-more c under a t room =
         let b = taken t in
         let more = then (c .put) (a .put) in
         let long = length-append (f .done) (c .piece ++ a .piece) in
@@ -230,24 +238,24 @@ module _ {file : List ℕ} {s : Sitting} {out : List ℕ} where
         record {
           done = f .done ++ (c .piece ++ a .piece);
           put = then (f .put) more;
-          fits = omega (arith, long, longer, f .fits, f .put .place, c .fits, a .short);
+          fits = omega (arith, long, longer, f .fits, f .put .place, c .fits, c .put .place, put-length (f .put), a .short);
           rest = f .rest ∙ ap (λ (l : List ℕ). f .done ++ l) (c .rest ∙ ap (λ (l : List ℕ). c .piece ++ l) (a .rest) ∙ sym (append-assoc (c .piece) (a .piece) _)) ∙ sym (append-assoc (f .done) (c .piece ++ a .piece) _);
           onward = omega (arith, f .onward, c .onward, far);
           moved = λ l. omega (arith, f .onward, c .onward, far);
         }
 
-    pub filled : (leb (here .at) (length file) && leb to (length out - 2 * mostPut)) ≡ false → Fill file s out after (record { sitting = here; to = to })
+    pub filled : (leb (here .at) (length file) && leb to (length out - mostPut)) ≡ false → Fill file s out after (record { sitting = here; to = to })
     filled t =
         record {
           piece = f .done;
           put = f .put;
           fits = f .fits;
           rest = f .rest;
-          further = λ room l. go l (leb (here .at) (length file)) refl (leb to (length out - 2 * mostPut)) refl t;
+          further = λ room l. go l (leb (here .at) (length file)) refl (leb to (length out - mostPut)) refl t;
         }
       where
-        go : s .at ≤ length file → (a : Bool) → leb (here .at) (length file) ≡ a → (b : Bool) → leb to (length out - 2 * mostPut) ≡ b → (a && b) ≡ false
+        go : s .at ≤ length file → (a : Bool) → leb (here .at) (length file) ≡ a → (b : Bool) → leb to (length out - mostPut) ≡ b → (a && b) ≡ false
             → s .at < here .at
         go l true p true q e = absurd (let z : _≡_ {A = Bool} true false = e in let y : _≡_ {A = ℕ} 0 1 = cc in omega arith)
-        go l true p false q e = f .moved (omega (arith, leb-false to (length out - 2 * mostPut) q))
+        go l true p false q e = f .moved (omega (arith, leb-false to (length out - mostPut) q))
         go l false p b q e = omega (arith, leb-false (here .at) (length file) p)

@@ -1,11 +1,12 @@
 -- Runs of I lines. Assumes nothing.
 use Prim.Native.Nat.{ℕ, _-_, _<_, _≤_, min}
 use mathlib.Core.Path.{_≡_, refl, sym, ap, _∙_}
+use mathlib.Core.Bool.{true}
 use mathlib.Core.List.{List}
 use native.Mathlib.Omega.{arith}
 use lib.ListN.{length, take, set, length-set}
 use lib.Seq.{take-set-lt}
-use Rattle.rules.specs.Refusals.{mostMotors}
+use Rattle.rules.specs.Refusals.{mostMotors, allOk, wordOk}
 use Rattle.sheet.specs.Grammar.{nextAt}
 use Rattle.sheet.specs.declared.Request.the-variants.{Input as I}
 use Rattle.sheet.specs.declared.Next.the-variants.{Taken}
@@ -16,6 +17,7 @@ use Rattle.interpreter.specs.Advance.{restFrom}
 use Rattle.interpreter.specs.Inputs.{Run}
 use Rattle.interpreter.proofs.ActLaws.{input-there}
 use Rattle.interpreter.proofs.PrintLaws.{rest-accepted}
+use Rattle.interpreter.proofs.Kept.{all-set, word-right}
 
 -- an accepted I line prints nothing, and changes its word alone
 word-set : (t : State) (count number word : ℕ) (words : List ℕ) → 1 ≤ number → number ≤ min count mostMotors
@@ -32,9 +34,16 @@ word-rest file words at next k number word held t count s h e f =
     rest-accepted file at (withWords t (take count words)) k s (rw e h)
     ∙ ap (λ (u : State). restFrom file next u (nextNumber k)) (word-set t count number word words (n .0) (omega (arith, n .1)))
 
+-- and its word is in its range
+word-kept : (words : List ℕ) (number word held : ℕ) → inputRefusal held number word ≡ 0 → allOk wordOk (take held words) ≡ true
+    → allOk wordOk (take held (set words (number - 1) word)) ≡ true
+word-kept words number word held h e =
+    let n = input-there held number word h in
+    rw (take-set-lt held words (number - 1) word (omega (arith, n .0, n .1))) (all-set wordOk (take held words) (number - 1) word e (word-right held number word h))
+
 module _ {file words₀ : List ℕ} {held at₀ line₀ : ℕ} where
   pub run-none : Run file held words₀ at₀ line₀ (record { words = words₀; at = at₀; line = line₀ })
-  run-none = record { same = λ t count e f. refl; size = refl; onward = omega arith; within = λ l. l }
+  run-none = record { same = λ t count e f. refl; size = refl; right = λ l e. e; onward = omega arith; within = λ l. l }
 
   -- one line more
   pub run-more : {words : List ℕ} {at line number word next : ℕ} → Run file held words₀ at₀ line₀ (record { words = words; at = at; line = line })
@@ -45,6 +54,7 @@ module _ {file words₀ : List ℕ} {held at₀ line₀ : ℕ} where
       record {
         same = λ t count e f. r .same t count e f ∙ word-rest file words at next line number word held t count s h e f;
         size = length-set words (number - 1) word ∙ r .size;
+        right = λ l e. word-kept words number word held h (r .right l e);
         onward = omega (arith, r .onward, s .further);
         within = λ l. s .within;
       }

@@ -32,13 +32,13 @@ module _ {A : Type 0} (test : A → Bool) where
   all-more [] x e f = both-true f refl
   all-more (y ∷ l) x e f = let a = and-true (test y) (allOk test l) e in both-true (a .0) (all-more l x (a .1) f)
 
-  all-set : (l : List A) (i : ℕ) (x : A) → allOk test l ≡ true → test x ≡ true → allOk test (set l i x) ≡ true
+  pub all-set : (l : List A) (i : ℕ) (x : A) → allOk test l ≡ true → test x ≡ true → allOk test (set l i x) ≡ true
   unfolding allOk
   all-set [] i x e f = refl
   all-set (y ∷ l) zero x e f = both-true f (and-true (test y) (allOk test l) e .1)
   all-set (y ∷ l) (suc i) x e f = let a = and-true (test y) (allOk test l) e in both-true (a .0) (all-set l i x (a .1) f)
 
-steps-in-range : (ms : List Motor) (ws : List ℕ) (period : ℕ) → allOk inRange ms ≡ true → allOk wordOk ws ≡ true → allOk inRange (stepAll ms ws period) ≡ true
+pub steps-in-range : (ms : List Motor) (ws : List ℕ) (period : ℕ) → allOk inRange ms ≡ true → allOk wordOk ws ≡ true → allOk inRange (stepAll ms ws period) ≡ true
 unfolding allOk stepAll
 steps-in-range [] ws period e f = refl
 steps-in-range (m ∷ ms) [] period e f = e
@@ -47,7 +47,7 @@ steps-in-range (m ∷ ms) (w ∷ ws) period e f =
     let b = and-true (wordOk w) (allOk wordOk ws) f in
     both-true (range-kept m w period (a .0) (b .0)) (steps-in-range ms ws period (a .1) (b .1))
 
-after-in-range : (ms : List Motor) (ws : List ℕ) (period : ℕ) → allOk inRange ms ≡ true → allOk wordOk ws ≡ true → allOk inRange (tableAfter ms ws period) ≡ true
+pub after-in-range : (ms : List Motor) (ws : List ℕ) (period : ℕ) → allOk inRange ms ≡ true → allOk wordOk ws ≡ true → allOk inRange (tableAfter ms ws period) ≡ true
 unfolding tableAfter if_then_else_
 after-in-range ms ws period e f = go (eqb (tableRefusal ms ws period) 0)
   where
@@ -71,7 +71,7 @@ settings-right : (held scans number : ℕ) (s : Settings) → motorRefusal held 
 unfolding motorRefusal
 settings-right held scans number s h = not-false _ (if-zero (not (settingsInRange s)) 4 _ (lit< tt) h .0)
 
-word-right : (held number word : ℕ) → inputRefusal held number word ≡ 0 → wordOk word ≡ true
+pub word-right : (held number word : ℕ) → inputRefusal held number word ≡ 0 → wordOk word ≡ true
 unfolding inputRefusal
 word-right held number word h =
     let a = if-zero (not (isThere held number)) 10 _ (lit< tt) h in

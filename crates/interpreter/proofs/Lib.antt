@@ -2,6 +2,7 @@ pub mod ActLaws
 pub mod PrintLaws
 pub mod AdvanceLaws
 pub mod InputLaws
+pub mod ScanLaws
 pub mod Kept
 pub mod Sheet
 pub mod Pieces

@@ -1,6 +1,6 @@
--- The pieces that `begin` and `advance` put, one call after another up to the end, are together the whole print; and so are those of
--- `fill`, each of which stands whole at the buffer's start. The calls come to an end. Assumes nothing.
-use Prim.Native.Nat.{ℕ, suc, _+_, _-_, _*_, _<_, _≤_}
+-- The pieces that `begin` and `fill` put, one call after another up to the end, are together the whole print, and each stands whole at the
+-- buffer's start. The calls come to an end. Assumes nothing.
+use Prim.Native.Nat.{ℕ, suc, _+_, _-_, _<_, _≤_}
 use mathlib.Core.Path.{_≡_, sym, ap, _∙_}
 use mathlib.Core.List.{List, [], _∷_, _++_}
 use native.Mathlib.Omega.{arith}
@@ -10,7 +10,7 @@ use Rattle.report.specs.Put.{Put}
 use Rattle.report.proofs.PutLaws.{exact-list, exact-place}
 use Rattle.interpreter.specs.State.{viewOf}
 use Rattle.interpreter.specs.Print.{printOf}
-use Rattle.interpreter.specs.Advance.{restFrom, restOf, mostPut, Begin, Advance, Fill}
+use Rattle.interpreter.specs.Advance.{restFrom, restOf, mostPut, Begin, Fill}
 use Rattle.interpreter.specs.declared.Sitting.{Sitting}
 use Rattle.interpreter.specs.declared.Advanced.{Advanced}
 use Rattle.interpreter.proofs.PrintLaws.{rest-past}
@@ -19,9 +19,7 @@ use Rattle.interpreter.proofs.PrintLaws.{rest-past}
 -- that each of them puts. A call past the end is not made.
 pub data Calls (file : List ℕ) : Sitting → List (List ℕ) → Type 0 where
   ended : {s : Sitting} → length file < s .at → Calls file s []
-  one-line : {s : Sitting} {out after : List ℕ} {to : ℕ} {r : Advanced} {ps : List (List ℕ)} → s .at ≤ length file
-      → (a : Advance file s out to after r) → Calls file (r .sitting) ps → Calls file s (a .piece ∷ ps)
-  one-buffer : {s : Sitting} {out after : List ℕ} {r : Advanced} {ps : List (List ℕ)} → s .at ≤ length file → 2 * mostPut ≤ length out
+  one-buffer : {s : Sitting} {out after : List ℕ} {r : Advanced} {ps : List (List ℕ)} → s .at ≤ length file → mostPut ≤ length out
       → (f : Fill file s out after r) → Calls file (r .sitting) ps → Calls file s (f .piece ∷ ps)
 
 unfoldable pub together : List (List ℕ) → List ℕ
@@ -31,7 +29,6 @@ together (p ∷ ps) = p ++ together ps
 pub calls-rest : {file : List ℕ} {s : Sitting} {ps : List (List ℕ)} → Calls file s ps → restOf file s ≡ together ps
 unfolding together
 calls-rest {file} {s} (ended h) = rest-past file (s .at) (viewOf (s .bench)) (s .line) h
-calls-rest (one-line h a c) = a .rest ∙ ap (λ (l : List ℕ). a .piece ++ l) (calls-rest c)
 calls-rest (one-buffer h m f c) = f .rest ∙ ap (λ (l : List ℕ). f .piece ++ l) (calls-rest c)
 
 -- the whole print
@@ -42,7 +39,6 @@ calls-print b c = b .rest ∙ ap (λ (l : List ℕ). b .piece ++ l) (calls-rest 
 -- each call goes further, so that there are at most as many as places are left
 pub calls-end : {file : List ℕ} {s : Sitting} {ps : List (List ℕ)} → Calls file s ps → length ps ≤ suc (length file) - s .at
 calls-end (ended h) = omega arith
-calls-end (one-line h a c) = omega (arith, a .further h, calls-end c)
 calls-end (one-buffer h m f c) = omega (arith, f .further m h, calls-end c)
 
 -- what `fill` leaves at the start of the buffer, up to the place that it answers, is its piece

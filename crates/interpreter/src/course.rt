@@ -2,16 +2,13 @@
 ghost use mathlib.Core.Path.{_≡_};
 ghost use Rattle.sheet.specs.Grammar.{nextAt};
 ghost use Rattle.sheet.specs.declared.Next.the-variants.{Taken};
-ghost use Rattle.interpreter.specs.Advance.{Begin, Advance, Fill};
+ghost use Rattle.interpreter.specs.Advance.{NoScan, Begin, Advance, Fill};
 use crate::Advanced;
-use crate::Bench;
 use crate::Sitting;
 use crate::acts::act;
 use crate::acts::empty;
-use crate::acts::in_use;
 use crate::acts::next_number;
-use crate::inputs::take_inputs;
-use crate::prints::put_answer;
+use crate::scans::stand;
 use crate::scans::take_scans;
 use report::put_refusal;
 use sheet::Next;
@@ -21,16 +18,8 @@ use sheet::next_request;
 // The most bytes of a file.
 const LARGEST_FILE: usize = 65536;
 
-// The most bytes that a call of `advance` puts.
+// The most bytes that the rows of a scan have.
 const MOST_PUT: usize = 2880;
-
-// A bench at a place of a file.
-fn stand(bench: Bench, at: usize, line: u32, to: usize) -> Advanced
-    ensures { λ r. ⌜ r ≡ (record { sitting = record { bench = bench; at = at; line = line }; to = to }) ⌝ }
-{
-    let sitting = Sitting { bench, at, line };
-    Advanced { sitting, to }
-}
 
 // An empty bench before the first line of a file. A file that is too long is refused, and has nothing more to print.
 pub fn begin(file: &[u8], out: &mut [u8], to: usize) -> Advanced
@@ -44,7 +33,8 @@ pub fn begin(file: &[u8], out: &mut [u8], to: usize) -> Advanced
     stand(bench, 0, 1, to)
 }
 
-// The line of a request, up to `next`: what it prints is put from `to` on. A refused line is the last.
+// The line of a request, up to `next`, that is no accepted scan: a refusal is put from `to` on, and nothing else. A refused line
+// is the last.
 fn take_request(
     file: &[u8],
     s: Sitting,
@@ -53,24 +43,24 @@ fn take_request(
     out: &mut [u8],
     to: usize,
 ) -> Advanced
-    requires { ⌜ nextAt (now file) (s .at) ≡ Taken request next ⌝ }
+    requires { ⌜ (nextAt (now file) (s .at) ≡ Taken request next) × NoScan (now file) s ⌝ }
     ensures { λ r. ⌜ Advance (now (file .entry)) s (now (out .entry)) to (now (out .exit)) r ⌝ }
 {
     let bench = s.bench;
     let line = s.line;
     let acted = act(bench, request);
     let refusal = acted.refusal;
-    let after = acted.bench;
     if refusal == 0 {
-        let n = put_answer(out, to, after, request);
-        return stand(after, next, next_number(line), n);
+        let after = acted.bench;
+        return stand(after, next, next_number(line), to);
     }
     let n = put_refusal(out, to, line, refusal);
     stand(bench, file.len() + 1, line, n)
 }
 
-// The next line of a file: what it prints is put from `to` on.
+// The next line of a file, that is no accepted scan: what it prints is put from `to` on.
 fn take_line(file: &[u8], s: Sitting, out: &mut [u8], to: usize) -> Advanced
+    requires { ⌜ NoScan (now file) s ⌝ }
     ensures { λ r. ⌜ Advance (now (file .entry)) s (now (out .entry)) to (now (out .exit)) r ⌝ }
 {
     match next_request(file, s.at) {
@@ -82,36 +72,21 @@ fn take_line(file: &[u8], s: Sitting, out: &mut [u8], to: usize) -> Advanced
     }
 }
 
-// The next lines of a file, a run of I lines and one other: what they print is put from `to` on. The run touches the words alone,
-// for a bench is dear to copy.
-pub fn advance(file: &[u8], s: Sitting, out: &mut [u8], to: usize) -> Advanced
-    ensures { λ r. ⌜ Advance (now (file .entry)) s (now (out .entry)) to (now (out .exit)) r ⌝ }
-{
-    let mut bench = s.bench;
-    let words = bench.words;
-    let run = take_inputs(file, in_use(bench.count), words, s.at, s.line);
-    let after = run.words;
-    bench.words = after;
-    let here = Sitting {
-        bench,
-        at: run.at,
-        line: run.line,
-    };
-    take_line(file, here, out, to)
-}
-
 // The next lines of a file, as many as the buffer has room for: what they print is put from its start on.
 pub fn fill(file: &[u8], s: Sitting, out: &mut [u8]) -> Advanced
     ensures { λ r. ⌜ Fill (now (file .entry)) s (now (out .entry)) (now (out .exit)) r ⌝ }
 {
-    if out.len() < 2 * MOST_PUT {
+    if out.len() < MOST_PUT {
         return Advanced { sitting: s, to: 0 };
     }
-    let last = out.len() - 2 * MOST_PUT;
+    let last = out.len() - MOST_PUT;
     let mut here = s;
     let mut to: usize = 0;
     while (here.at <= file.len()) & (to <= last) {
         let run = take_scans(file, here, out, to, last);
+        if last < run.to {
+            return run;
+        }
         let next = run.sitting;
         let a = take_line(file, next, out, run.to);
         here = a.sitting;

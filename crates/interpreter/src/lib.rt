@@ -3,11 +3,9 @@
 mod acts;
 mod course;
 mod inputs;
-mod prints;
 mod scans;
 
 pub use acts::act;
-pub use course::advance;
 pub use course::begin;
 pub use course::fill;
 use rules::Motor;

@@ -1,21 +1,38 @@
 // Runs of I and S lines, which touch the words, the motors and the count of scans, each in a local of its own: a bench is dear
 // to copy.
-ghost use Rattle.interpreter.specs.Inputs.{FoundScan, Room, Scans};
+ghost use mathlib.Core.Path.{_≡_};
+ghost use mathlib.Core.Bool.{_&&_};
+ghost use Prim.Native.Nat.{_≤_};
+ghost use lib.ListN.{take};
+ghost use Rattle.rules.specs.Refusals.{mostMotors, allOk, inRange, wordOk};
+ghost use Rattle.interpreter.specs.Print.{motorRow};
+ghost use Rattle.interpreter.specs.Inputs.{FoundScan, Ready, Room, Scans, Over};
 use crate::Advanced;
 use crate::Bench;
 use crate::Sitting;
 use crate::acts::in_use;
 use crate::acts::next_number;
 use crate::inputs::take_inputs;
-use crate::prints::put_rows;
+use report::Row;
+use report::put_row;
+use rules::Motor;
 use sheet::Next;
 use sheet::Request;
 use sheet::next_request;
+use table::MOST_MOTORS;
 
-// An S line, with the place of the next line; or any other line.
+// An S line whose period is one of a scan, with the place of the next line; or any other line.
 pub enum NextScan {
     Period { period: u32, next: usize },
     Other,
+}
+
+// A bench at a place of a file.
+pub fn stand(bench: Bench, at: usize, line: u32, to: usize) -> Advanced
+    ensures { λ r. ⌜ r ≡ (record { sitting = record { bench = bench; at = at; line = line }; to = to }) ⌝ }
+{
+    let sitting = Sitting { bench, at, line };
+    Advanced { sitting, to }
 }
 
 fn next_scan(file: &[u8], at: usize) -> NextScan
@@ -27,14 +44,50 @@ fn next_scan(file: &[u8], at: usize) -> NextScan
     let Request::Scan { period } = request else {
         return NextScan::Other;
     };
-    NextScan::Period { period, next }
+    if motor::is_period_ok(period) {
+        return NextScan::Period { period, next };
+    }
+    NextScan::Other
+}
+
+// A motor's line after a scan.
+fn row(scan: u32, number: u32, m: Motor) -> Row
+    ensures { λ r. ⌜ r ≡ motorRow scan number m ⌝ }
+{
+    Row {
+        scan,
+        number,
+        mode: m.status.mode,
+        position: m.status.position,
+        command: m.status.command,
+        end: m.status.end,
+        output: m.output.state,
+        flags: m.status.flags,
+    }
+}
+
+// Whether every record and word in use is in its range, so that a scan can be refused for its period alone.
+fn are_scannable(motors: [Motor; MOST_MOTORS], words: [u32; MOST_MOTORS], held: usize) -> bool
+    requires { ⌜ held ≤ mostMotors ⌝ }
+    ensures { λ r. ⌜ r ≡ (allOk inRange (take held motors) && allOk wordOk (take held words)) ⌝ }
+{
+    let mut i: usize = 0;
+    while i < held {
+        let m = motors[i];
+        if !(motor::is_in_range(m) & motor::is_word_ok(words[i])) {
+            return false;
+        }
+        i += 1;
+    }
+    true
 }
 
 // The I and S lines from a sitting on, up to the first line that is refused or of another kind, and no further than the place
-// `last` of the buffer: what they print is put from `to` on.
-pub fn take_scans(file: &[u8], s: Sitting, out: &mut [u8], to: usize, last: usize) -> Advanced
-    requires { ⌜ Room (now out) to last ⌝ }
-    ensures { λ r. ⌜ Scans (now (file .entry)) s (now (out .entry)) to last (now (out .exit)) r ⌝ }
+// `last` of the buffer: what they print is put from `to` on. Each motor is printed as it is scanned, and the records stay where
+// they are: two loops in one function, for a call with the motors would copy them.
+fn scan_lines(file: &[u8], s: Sitting, out: &mut [u8], to: usize, last: usize) -> Advanced
+    requires { ⌜ Room (now out) to last × Ready s ⌝ }
+    ensures { λ r. ⌜ Scans (now (file .entry)) s (now (out .entry)) to last (now (out .exit)) r × Over (now (file .entry)) last r ⌝ }
 {
     let bench = s.bench;
     let count = bench.count;
@@ -51,53 +104,57 @@ pub fn take_scans(file: &[u8], s: Sitting, out: &mut [u8], to: usize, last: usiz
         at = run.at;
         line = run.line;
         let NextScan::Period { period, next } = next_scan(file, at) else {
-            return Advanced {
-                sitting: Sitting {
-                    bench: Bench {
-                        motors,
-                        words,
-                        count,
-                        scans,
-                    },
-                    at,
-                    line,
-                },
-                to,
-            };
-        };
-        let scanned = table::scan_array(motors, held, words, period);
-        if scanned.refusal != 0 {
-            return Advanced {
-                sitting: Sitting {
-                    bench: Bench {
-                        motors,
-                        words,
-                        count,
-                        scans,
-                    },
-                    at,
-                    line,
-                },
-                to,
-            };
-        }
-        motors = scanned.records;
-        scans = next_number(scans);
-        at = next;
-        line = next_number(line);
-        to = put_rows(out, to, motors, count, scans);
-    }
-    Advanced {
-        sitting: Sitting {
-            bench: Bench {
+            let b = Bench {
                 motors,
                 words,
                 count,
                 scans,
-            },
-            at,
-            line,
-        },
-        to,
+            };
+            return stand(b, at, line, to);
+        };
+        scans = next_number(scans);
+        let mut i: usize = 0;
+        while i < held {
+            let word = words[i];
+            let m = motors[i];
+            let set = m.settings;
+            let v = m.status;
+            let o = m.output;
+            if motor::is_resting(set, v, o, word) {
+                let mut rested = motors[i];
+                rested.status = motor::rest(set, v, word);
+                motors[i] = rested;
+            } else {
+                let scanned = motor::scan(motors[i], word, period);
+                let stepped = scanned.motor;
+                motors[i] = stepped;
+            }
+            let after = motors[i];
+            to = put_row(out, to, row(scans, i as u32 + 1, after));
+            i += 1;
+        }
+        at = next;
+        line = next_number(line);
     }
+    let b = Bench {
+        motors,
+        words,
+        count,
+        scans,
+    };
+    stand(b, at, line, to)
+}
+
+// The same from any sitting: one that no scan fits is left as it is.
+pub fn take_scans(file: &[u8], s: Sitting, out: &mut [u8], to: usize, last: usize) -> Advanced
+    requires { ⌜ Room (now out) to last ⌝ }
+    ensures { λ r. ⌜ Scans (now (file .entry)) s (now (out .entry)) to last (now (out .exit)) r × Over (now (file .entry)) last r ⌝ }
+{
+    let bench = s.bench;
+    let motors = bench.motors;
+    let words = bench.words;
+    if are_scannable(motors, words, in_use(bench.count)) {
+        return scan_lines(file, s, out, to, last);
+    }
+    Advanced { sitting: s, to }
 }

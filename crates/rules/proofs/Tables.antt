@@ -1,12 +1,12 @@
 -- What follows for the two scans from their definitions, whatever the range and the ten steps are. Assumes nothing.
-use mathlib.Core.Path.{_≡_, refl, _∙_, ap}
+use mathlib.Core.Path.{_≡_, refl, sym, _∙_, ap}
 use Prim.Native.Nat.{ℕ, zero, suc, _<_, _≤_}
 use native.Mathlib.Nat.{not-suc-le-zero, le-of-suc-le-suc}
 use native.Mathlib.Omega.{arith}
 use mathlib.Core.Bool.{Bool, true, false, not, _&&_, _||_}
 use mathlib.Core.List.{List, [], _∷_, _++_}
 use lib.Dec.{eqb, ltb, lit<}
-use lib.ListN.{length, getD, take, drop, take-append-drop}
+use lib.ListN.{length, getD, set, take, drop, take-append-drop}
 use lib.Seq.{length-take-le, length-front, take-at, drop-at}
 use borrow.Author.Tests.{eqb-true, ltb-false, not-false, eq-eqb, ne-eqb, le-ltb}
 use Rattle.words.specs.Word.{if_then_else_}
@@ -37,6 +37,16 @@ unfolding allOk
 allOk-at f [] i d e l = absurd (not-suc-le-zero l)
 allOk-at f (x ∷ xs) zero d e l = and-true (f x) (allOk f xs) e .0
 allOk-at f (x ∷ xs) (suc i) d e l = allOk-at f xs i d (and-true (f x) (allOk f xs) e .1) (le-of-suc-le-suc l)
+
+and-assoc : (a b c : Bool) → a && (b && c) ≡ a && b && c
+and-assoc true b c = refl
+and-assoc false b c = refl
+
+pub allOk-suc {ℓ} : {A : Type ℓ} (f : A → Bool) (xs : List A) (i : ℕ) (d : A) → i < length xs → allOk f (take (suc i) xs) ≡ allOk f (take i xs) && f (getD xs i d)
+unfolding allOk
+allOk-suc f [] i d l = absurd (not-suc-le-zero l)
+allOk-suc f (x ∷ xs) zero d l = and-end (f x)
+allOk-suc f (x ∷ xs) (suc i) d l = ap (λ (b : Bool). f x && b) (allOk-suc f xs i d (le-of-suc-le-suc l)) ∙ and-assoc (f x) (allOk f (take i xs)) (f (getD xs i d))
 
 -- ---- one motor
 pub one-refused : (m : Motor) (w p : ℕ) → (oneRefusal m w p ≡ 0 → ⊥) → oneAfter m w p ≡ m
@@ -121,6 +131,36 @@ pub length-after : (ms : List Motor) (ws : List ℕ) (p : ℕ) → length (table
 unfolding tableAfter
 length-after ms ws p = if-either length (length ms) (eqb (tableRefusal ms ws p) 0) (stepAll ms ws p) ms (length-stepAll ms ws p) refl
 
+-- ---- a table of which some records are stepped: as many as there are words
+pub none-stepped : (ms : List Motor) (p : ℕ) → stepAll ms [] p ≡ ms
+unfolding stepAll
+none-stepped [] p = refl
+none-stepped (m ∷ ms) p = refl
+
+-- the record j is not stepped before its turn
+pub not-yet : (ms : List Motor) (ws : List ℕ) (p j : ℕ) (d : Motor) → getD (stepAll ms (take j ws) p) j d ≡ getD ms j d
+unfolding stepAll
+not-yet [] ws p j d = refl
+not-yet (m ∷ ms) ws p zero d = refl
+not-yet (m ∷ ms) [] p (suc j) d = refl
+not-yet (m ∷ ms) (w ∷ ws) p (suc j) d = not-yet ms ws p j d
+
+pub one-more : (ms : List Motor) (ws : List ℕ) (p j : ℕ) (d : Motor) → j < length ms → j < length ws → set (stepAll ms (take j ws) p) j (step (getD ms j d) (getD ws j 0) p) ≡ stepAll ms (take (suc j) ws) p
+unfolding stepAll
+one-more [] ws p j d l l′ = absurd (not-suc-le-zero l)
+one-more (m ∷ ms) [] p j d l l′ = absurd (not-suc-le-zero l′)
+one-more (m ∷ ms) (w ∷ ws) p zero d l l′ = ap (λ (ns : List Motor). step m w p ∷ ns) (sym (none-stepped ms p))
+one-more (m ∷ ms) (w ∷ ws) p (suc j) d l l′ = ap (λ (ns : List Motor). step m w p ∷ ns) (one-more ms ws p j d (le-of-suc-le-suc l) (le-of-suc-le-suc l′))
+
+-- the first n are stepped, and the others stay
+pub steps-front : (ms : List Motor) (ws : List ℕ) (p n : ℕ) → stepAll ms (take n ws) p ≡ stepAll (take n ms) (take n ws) p ++ drop n ms
+unfolding stepAll
+steps-front [] ws p zero = refl
+steps-front [] ws p (suc n) = refl
+steps-front (m ∷ ms) ws p zero = refl
+steps-front (m ∷ ms) [] p (suc n) = ap (λ (l : List Motor). m ∷ l) (sym (take-append-drop n ms))
+steps-front (m ∷ ms) (w ∷ ws) p (suc n) = ap (λ (l : List Motor). step m w p ∷ l) (steps-front ms ws p n)
+
 -- ---- a table of one is refused and scanned as its record by itself
 pub single-refusal : (m : Motor) (w p : ℕ) → tableRefusal (m ∷ []) (w ∷ []) p ≡ oneRefusal m w p
 unfolding tableRefusal misfit oneRefusal mostMotors allOk if_then_else_
@@ -148,6 +188,16 @@ part-refused ms n ws p h = part-unchanged ms n ws p (ltb mostMotors n) h
 pub length-part : (ms : List Motor) (n : ℕ) (ws : List ℕ) (p : ℕ) → length (partAfter ms n ws p) ≡ length ms
 unfolding partAfter
 length-part ms n ws p = if-either length (length ms) (ltb mostMotors n) ms (tableAfter (take n ms) (take n ws) p ++ drop n ms) refl (length-front ms (tableAfter (take n ms) (take n ws) p) n (length-after (take n ms) (take n ws) p))
+
+-- where a table of the first records is accepted, they are stepped
+pub part-stepped : (ms : List Motor) (n : ℕ) (ws : List ℕ) (p : ℕ) → partRefusal ms n ws p ≡ 0 → partAfter ms n ws p ≡ stepAll ms (take n ws) p
+unfolding partRefusal partAfter if_then_else_
+part-stepped ms n ws p h = go (ltb mostMotors n) h
+  where
+    go : (z : Bool) → if_then_else_ z 1 (tableRefusal (take n ms) (take n ws) p) ≡ 0
+        → if_then_else_ z ms (tableAfter (take n ms) (take n ws) p ++ drop n ms) ≡ stepAll ms (take n ws) p
+    go true e = absurd (omega arith)
+    go false e = rw (table-accepted (take n ms) (take n ws) p e) (sym (steps-front ms ws p n))
 
 -- where the count is one of a table, the first records are scanned as a table, and the others stay
 pub part-front : (ms : List Motor) (n : ℕ) (ws : List ℕ) (p : ℕ) → n ≤ mostMotors → n ≤ length ms → take n (partAfter ms n ws p) ≡ tableAfter (take n ms) (take n ws) p

@@ -13,20 +13,9 @@ use borrow.Author.Tests.{eqb-true, not-false}
 use Rattle.words.specs.Word.{if_then_else_}
 use Rattle.rules.specs.Steps.{step}
 use Rattle.rules.specs.Refusals.{misfit, inRange, periodOk, wordOk, allOk, oneAfter, tableRefusal, stepAll, tableAfter}
-use Rattle.rules.proofs.Tables.{and-end, or-false, accepted, each-accepted, one-accepted, length-stepAll}
+use Rattle.rules.proofs.Tables.{or-false, allOk-suc, accepted, each-accepted, one-accepted, none-stepped, not-yet, one-more, length-stepAll}
 use Rattle.rules.specs.declared.Motor.{Motor}
 use Rattle.table.specs.Pass.{firstCode, nextCode, toTest, toStep}
-
--- ---- tests
-and-assoc : (a b c : Bool) → a && (b && c) ≡ a && b && c
-and-assoc true b c = refl
-and-assoc false b c = refl
-
-allOk-suc {ℓ} : {A : Type ℓ} (f : A → Bool) (xs : List A) (i : ℕ) (d : A) → i < length xs → allOk f (take (suc i) xs) ≡ allOk f (take i xs) && f (getD xs i d)
-unfolding allOk
-allOk-suc f [] i d l = absurd (not-suc-le-zero l)
-allOk-suc f (x ∷ xs) zero d l = and-end (f x)
-allOk-suc f (x ∷ xs) (suc i) d l = ap (λ (b : Bool). f x && b) (allOk-suc f xs i d (le-of-suc-le-suc l)) ∙ and-assoc (f x) (allOk f (take i xs)) (f (getD xs i d))
 
 -- what the records x, the period q and the words y come to, and with them one more record m and word w
 code : Bool → Bool → Bool → ℕ
@@ -47,27 +36,6 @@ code-fits false q y = lit< tt
 code-fits true false y = lit< tt
 code-fits true true false = lit< tt
 code-fits true true true = lit< tt
-
--- ---- a pass that steps, over lists
-none-stepped : (ms : List Motor) (p : ℕ) → stepAll ms [] p ≡ ms
-unfolding stepAll
-none-stepped [] p = refl
-none-stepped (m ∷ ms) p = refl
-
--- the record j is not stepped before its turn
-not-yet : (ms : List Motor) (ws : List ℕ) (p j : ℕ) (d : Motor) → getD (stepAll ms (take j ws) p) j d ≡ getD ms j d
-unfolding stepAll
-not-yet [] ws p j d = refl
-not-yet (m ∷ ms) ws p zero d = refl
-not-yet (m ∷ ms) [] p (suc j) d = refl
-not-yet (m ∷ ms) (w ∷ ws) p (suc j) d = not-yet ms ws p j d
-
-one-more : (ms : List Motor) (ws : List ℕ) (p j : ℕ) (d : Motor) → j < length ms → j < length ws → set (stepAll ms (take j ws) p) j (step (getD ms j d) (getD ws j 0) p) ≡ stepAll ms (take (suc j) ws) p
-unfolding stepAll
-one-more [] ws p j d l l′ = absurd (not-suc-le-zero l)
-one-more (m ∷ ms) [] p j d l l′ = absurd (not-suc-le-zero l′)
-one-more (m ∷ ms) (w ∷ ws) p zero d l l′ = ap (λ (ns : List Motor). step m w p ∷ ns) (sym (none-stepped ms p))
-one-more (m ∷ ms) (w ∷ ws) p (suc j) d l l′ = ap (λ (ns : List Motor). step m w p ∷ ns) (one-more ms ws p j d (le-of-suc-le-suc l) (le-of-suc-le-suc l′))
 
 -- ---- the first pass: the refusal once i records are tested. Each lemma is by the outcome z of the test of the lengths
 module _ (ms : List Motor) (ws : List ℕ) (p : ℕ) where

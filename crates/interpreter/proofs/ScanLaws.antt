@@ -1,0 +1,265 @@
+-- A scan taken motor by motor, each printed as it is scanned: how that comes to the scan of the table. Assumes nothing.
+use Prim.Native.Nat.{ℕ, suc, _+_, _^_, _<_, _≤_, min}
+use mathlib.Core.Path.{_≡_, refl, sym, ap, _∙_}
+use mathlib.Core.Bool.{Bool, true, false, not, _&&_, _||_, false≢true}
+use mathlib.Core.List.{List, [], _∷_}
+use native.Mathlib.Omega.{arith}
+use native.Mathlib.Numerals.{add-one}
+use lib.Dec.{leb}
+use lib.ListN.{length, getD, set, take, length-take, length-set}
+use lib.Seq.{getD-take, getD-set-same, take-set-le, length-take-le}
+use borrow.Author.Tests.{leb-true, eq-eqb, le-ltb}
+use Rattle.words.specs.Word.{if_then_else_}
+use Rattle.rules.specs.declared.Motor.{Motor}
+use Rattle.rules.specs.declared.Status.{Status}
+use Rattle.rules.specs.Record.{withStatus}
+use Rattle.rules.specs.Steps.{step}
+use Rattle.rules.specs.Resting.{rests, restedStatus}
+use Rattle.rules.specs.Refusals.{mostMotors, mostWord, inRange, wordOk, periodOk, allOk, misfit, oneRefusal, oneAfter, stepAll, tableRefusal, tableAfter, partRefusal, partAfter}
+use Rattle.rules.proofs.Range.{accepted as one-fits, steppable}
+use Rattle.rules.proofs.Resting.{resting}
+use Rattle.rules.proofs.Tables.{and-true, one-accepted, allOk-at, allOk-suc, one-accepts, Accepted, accepted, none-stepped, not-yet, one-more, length-stepAll, part-stepped, part-front}
+use types.Run.{OneOf, miss}
+use denote.Enum.Declared.{tagOf}
+use Rattle.sheet.proofs.Request.{the-type}
+use Rattle.sheet.specs.declared.Request.{Request}
+use Rattle.sheet.specs.declared.Request.the-variants.{Motor as M, Input as I, Scan as S, Refused}
+use Rattle.sheet.specs.declared.Next.{Next}
+use Rattle.sheet.specs.declared.Next.the-variants.{Taken, Done}
+use Rattle.report.specs.Put.{Put}
+use Rattle.report.specs.Print.{rowOf}
+use Rattle.report.proofs.PutLaws.{put-none, then as and-then}
+use Rattle.interpreter.specs.State.{nextNumber, scanRefusal, refusalFor, viewOf}
+use Rattle.interpreter.specs.Print.{motorRow, rowsOf}
+use Rattle.interpreter.specs.Advance.{mostPut}
+use Rattle.interpreter.specs.Inputs.{Run, Scans, Ready}
+use Rattle.interpreter.specs.declared.Bench.{Bench}
+use Rattle.interpreter.specs.declared.Sitting.{Sitting}
+use Rattle.interpreter.specs.declared.Advanced.{Advanced}
+use Rattle.interpreter.specs.declared.inputs.Inputs.{Inputs}
+use Rattle.sheet.specs.Grammar.{nextAt}
+use Rattle.interpreter.proofs.ActLaws.{take-used}
+use Rattle.interpreter.proofs.PrintLaws.{no-rows, rows-more}
+use Rattle.interpreter.proofs.Kept.{after-in-range}
+use Rattle.interpreter.proofs.AdvanceLaws.{standing, scans-more}
+
+-- stands for a motor past the end of an array
+abbrev pub zeros : Motor
+zeros =
+    record {
+      settings = record { ops1 = 0; ops2 = 0; w = 0; u = 0 };
+      status = record { mode = 0; sure = 0; position = 0; command = 0; end = 0; flags = 0; previous = 0 };
+      sum = 0;
+      output = record { state = 0; sum = 0 };
+    }
+
+-- ---- one motor
+
+-- at rest
+pub rested : (m : Motor) (word period : ℕ) → oneRefusal m word period ≡ 0 → rests (m .settings) (m .status) (m .output) word ≡ true
+    → withStatus m (restedStatus (m .settings) (m .status) word) ≡ step m word period
+unfolding wordOk
+rested m word period h e =
+    let a = one-fits m word period h in
+    sym (resting m word period (omega (arith, leb-true word 131071 (a .input))) (omega (arith, steppable a .previous)) e)
+
+-- a list with the motor after its scan, at rest or not
+module _ (ms : List Motor) (i : ℕ) (m : Motor) (word period : ℕ) (ok : oneRefusal m word period ≡ 0) where
+  pub set-rested : {v : Status} → rests (m .settings) (m .status) (m .output) word ≡ true → v ≡ restedStatus (m .settings) (m .status) word
+      → set ms i (withStatus m v) ≡ set ms i (step m word period)
+  set-rested e f = ap (set ms i) (ap (withStatus m) f ∙ rested m word period ok e)
+
+  pub set-scanned : {n : Motor} → n ≡ oneAfter m word period → set ms i n ≡ set ms i (step m word period)
+  set-scanned f = ap (set ms i) (f ∙ one-accepted m word period ok)
+
+-- ---- records and words tested one after another
+
+abbrev pub InRange : List Motor → List ℕ → ℕ → Bool
+InRange motors words n = allOk inRange (take n motors) && allOk wordOk (take n words)
+
+module _ (motors : List Motor) (words : List ℕ) where
+  pub none-tested : InRange motors words 0 ≡ true
+  unfolding allOk
+  none-tested = refl
+
+  module _ (i : ℕ) (d : Motor) (l : i < length motors) (m : i < length words) where
+    pub one-tested : InRange motors words i ≡ true → (inRange (getD motors i d) && wordOk (getD words i 0)) ≡ true → InRange motors words (i + 1) ≡ true
+    one-tested e f =
+        let a = and-true (allOk inRange (take i motors)) (allOk wordOk (take i words)) e in
+        let b = and-true (inRange (getD motors i d)) (wordOk (getD words i 0)) f in
+        rw (add-one i, allOk-suc inRange motors i d l, allOk-suc wordOk words i 0 m, a .0, a .1, b .0, b .1) refl
+
+    pub one-out : {n : ℕ} → i < n → (inRange (getD motors i d) && wordOk (getD words i 0)) ≡ false → InRange motors words n ≡ false
+    one-out {n} h f = go (InRange motors words n) refl
+      where
+        go : (b : Bool) → InRange motors words n ≡ b → b ≡ false
+        go false e = refl
+        go true e =
+            let a = and-true (allOk inRange (take n motors)) (allOk wordOk (take n words)) e in
+            let x : inRange (getD motors i d) ≡ true = sym (ap inRange (getD-take n motors i d h)) ∙ allOk-at inRange (take n motors) i d (a .0) (omega (arith, length-take n motors)) in
+            let y : wordOk (getD words i 0) ≡ true = sym (ap wordOk (getD-take n words i 0 h)) ∙ allOk-at wordOk (take n words) i 0 (a .1) (omega (arith, length-take n words)) in
+            absurd (false≢true (sym f ∙ rw (x, y) refl))
+
+-- ---- the motors in use
+
+module _ (motors : List Motor) (words : List ℕ) (held : ℕ) (few : held ≤ mostMotors) (is : length motors ≡ 32) (js : length words ≡ 32) where
+  pub few-motors : held ≤ length motors
+  unfolding mostMotors
+  few-motors = omega arith
+
+  pub few-words : held ≤ length words
+  unfolding mostMotors
+  few-words = omega arith
+
+  module _ (records : allOk inRange (take held motors) ≡ true) (right : allOk wordOk (take held words) ≡ true) (period : ℕ) (time : periodOk period ≡ true) where
+    -- each is accepted by itself
+    pub due : (i : ℕ) (d : Motor) → i < held → oneRefusal (getD motors i d) (getD words i 0) period ≡ 0
+    due i d l =
+        one-accepts (getD motors i d) (getD words i 0) period
+        (sym (ap inRange (getD-take held motors i d l)) ∙ allOk-at inRange (take held motors) i d records (omega (arith, length-take-le held motors few-motors)))
+        time
+        (sym (ap wordOk (getD-take held words i 0 l)) ∙ allOk-at wordOk (take held words) i 0 right (omega (arith, length-take-le held words few-words)))
+
+    -- and so is the table of them
+    pub all-due : partRefusal motors held words period ≡ 0
+    unfolding partRefusal tableRefusal misfit if_then_else_
+    all-due =
+        let a = length-take-le held motors few-motors in
+        let b = length-take-le held words few-words in
+        rw (le-ltb mostMotors held few, eq-eqb (length (take held motors)) (length (take held words)) (a ∙ sym b), le-ltb mostMotors (length (take held motors)) (omega (arith, a)), records, right, time)
+
+    pub range-kept : allOk inRange (take held (partAfter motors held words period)) ≡ true
+    range-kept = rw (part-front motors held words period few few-motors) (after-in-range (take held motors) (take held words) period records right)
+
+-- ---- the first i motors are scanned and printed
+
+pub record Scanning (motors₀ : List Motor) (words : List ℕ) (period scans : ℕ) (out₀ : List ℕ) (to₀ : ℕ) (motors : List Motor) (out : List ℕ) (to i : ℕ) : Type 0 where
+  pub records : motors ≡ stepAll motors₀ (take i words) period
+  pub put : Put out₀ to₀ (rowsOf scans 1 (take i motors)) out to
+
+module _ {motors₀ : List Motor} {words : List ℕ} {period scans : ℕ} {out₀ : List ℕ} {to₀ : ℕ} where
+  pub scanning-none : Scanning motors₀ words period scans out₀ to₀ motors₀ out₀ to₀ 0
+  scanning-none = record { records = sym (none-stepped motors₀ period); put = rw no-rows put-none }
+
+  module _ {motors : List Motor} {out : List ℕ} {to i : ℕ} (s : Scanning motors₀ words period scans out₀ to₀ motors out to i) where
+    -- the next one stands as it was
+    pub waiting : (d : Motor) → getD motors i d ≡ getD motors₀ i d
+    waiting d = rw (s .records) (not-yet motors₀ words period i d)
+
+    pub same-size : length motors ≡ length motors₀
+    same-size = rw (s .records) (length-stepAll motors₀ (take i words) period)
+
+    -- it is scanned and printed
+    pub scanning-more : (d : Motor) {later : List Motor} {after : List ℕ} {next : ℕ} → i < length motors₀ → i < length words
+        → later ≡ set motors i (step (getD motors i d) (getD words i 0) period) → Put out to (rowOf (motorRow scans (i + 1) (getD later i d))) after next
+        → Scanning motors₀ words period scans out₀ to₀ later after next (i + 1)
+    scanning-more d {later} l m e p =
+        record {
+          records = e ∙ rw (waiting d, s .records, add-one i) (one-more motors₀ words period i d l m);
+          put =
+              let size : i < length later = omega (arith, ap length e, length-set motors i (step (getD motors i d) (getD words i 0) period), same-size) in
+              let front : take i later ≡ take i motors = ap (take i) e ∙ take-set-le i motors i _ (omega arith) in
+              rw (rows-more scans i later d size, front) (and-then (s .put) p);
+        }
+
+    -- all are
+    pub scanned : {held : ℕ} → i ≡ held → partRefusal motors₀ held words period ≡ 0 → motors ≡ partAfter motors₀ held words period
+    scanned {held} e h = s .records ∙ ap (λ (k : ℕ). stepAll motors₀ (take k words) period) e ∙ sym (part-stepped motors₀ held words period h)
+
+-- ---- a bench of which a scan is accepted
+
+module _ (b : Bench) (is : length (b .motors) ≡ 32) (js : length (b .words) ≡ 32) where
+  pub accepting : (period : ℕ) → refusalFor (viewOf b) (S period) ≡ 0
+      → Accepted (take (min (b .count) mostMotors) (b .motors)) (take (min (b .count) mostMotors) (b .words)) period
+  unfolding refusalFor scanRefusal
+  accepting period h = rw (← take-used (b .count) (b .motors) is, ← take-used (b .count) (b .words) js) (accepted (take (b .count) (b .motors)) (take (b .count) (b .words)) period h)
+
+  -- not one whose records or words are out of range
+  pub unready : (period : ℕ) → InRange (b .motors) (b .words) (min (b .count) mostMotors) ≡ false
+      → refusalFor (viewOf b) (S period) ≡ 0 → ⊥
+  unready period e h = let a = accepting period h in false≢true (sym e ∙ rw (a .records, a .words) refl)
+
+  -- nor with a period out of range
+  pub untimely : (period : ℕ) → periodOk period ≡ false → refusalFor (viewOf b) (S period) ≡ 0 → ⊥
+  untimely period e h = false≢true (sym e ∙ accepting period h .period)
+
+-- ---- a run of I lines and an S line, whose motors are all scanned and printed
+
+module _ {file : List ℕ} {s : Sitting} {out : List ℕ} {to last : ℕ} {here : Sitting} {after : List ℕ} {n : ℕ} (r : Scans file s out to last after (record { sitting = here; to = n })) (i : Inputs) (is : length (here .bench .motors) ≡ 32) (js : length (here .bench .words) ≡ 32) (ready : Ready here) (run : Run file (min (here .bench .count) mostMotors) (here .bench .words) (here .at) (here .line) i) where
+  held : ℕ
+  held = min (here .bench .count) mostMotors
+
+  few : held ≤ mostMotors
+  unfolding held
+  few = omega arith
+
+  js₁ : length (i .words) ≡ 32
+  js₁ = run .size ∙ js
+
+  right : allOk wordOk (take held (i .words)) ≡ true
+  unfolding held
+  right = run .right (few-words (here .bench .motors) (here .bench .words) (min (here .bench .count) mostMotors) (omega arith) is js) (ready .words)
+
+  module _ (period next : ℕ) (found : nextAt file (i .at) ≡ Taken (S period) next) (time : periodOk period ≡ true) where
+    -- each motor in use is accepted
+    pub each-due : (k : ℕ) (d : Motor) → k < min (here .bench .count) mostMotors → oneRefusal (getD (here .bench .motors) k d) (getD (i .words) k 0) period ≡ 0
+    unfolding held
+    each-due k d l = due (here .bench .motors) (i .words) held few is js₁ (ready .records) right period time k d l
+
+    module _ {motors : List Motor} {later : List ℕ} {m k : ℕ} (all : k ≡ min (here .bench .count) mostMotors) (scan : Scanning (here .bench .motors) (i .words) period (nextNumber (here .bench .scans)) after n motors later m k) where
+      abbrev pub afterScan : Advanced
+      afterScan = standing (record { motors = motors; words = i .words; count = here .bench .count; scans = nextNumber (here .bench .scans) }) next (nextNumber (i .line)) m
+
+      accepted-scan : partRefusal (here .bench .motors) held (i .words) period ≡ 0
+      unfolding held
+      accepted-scan = all-due (here .bench .motors) (i .words) held few is js₁ (ready .records) right period time
+
+      all-scanned : motors ≡ partAfter (here .bench .motors) held (i .words) period
+      unfolding held
+      all-scanned = scanned scan all accepted-scan
+
+      size : length motors ≡ 32
+      size = same-size scan ∙ is
+
+      pub line-scanned : n ≤ last → last + mostPut ≤ length out
+          → (length motors ≡ 32) × (length (i .words) ≡ 32) × Ready (afterScan .sitting) × Scans file s out to last later afterScan
+      unfolding held
+      line-scanned h room = (
+        size,
+        js₁,
+        record { records = rw all-scanned (range-kept (here .bench .motors) (i .words) held few is js₁ (ready .records) right period time); words = right },
+        scans-more r i is js run found (sym accepted-scan) all-scanned refl h room (rw (take-used (here .bench .count) motors size, ← all) (scan .put)),
+      )
+
+-- ---- which line stands at a place
+
+requestIn : Next → Request
+requestIn (Taken r next) = r
+requestIn Done = Refused
+
+isScan : Request → Bool
+isScan (S period) = true
+isScan (M number ops1 ops2 w u) = false
+isScan (I number word) = false
+isScan Refused = false
+
+periodIn : Request → ℕ
+periodIn (S period) = period
+periodIn (M number ops1 ops2 w u) = 0
+periodIn (I number word) = 0
+periodIn Refused = 0
+
+-- no line
+pub no-line : {period next : ℕ} → _≡_ {A = Next} Done (Taken (S period) next) → ⊥
+unfolding requestIn isScan
+no-line e = false≢true (ap (λ (n : Next). isScan (requestIn n)) e)
+
+-- a line of another kind, by its tag
+pub other-kind : {r : Request} {next period next′ : ℕ} → OneOf (0 ∷ 1 ∷ 3 ∷ []) (tagOf the-type r) → Taken r next ≡ Taken (S period) next′ → ⊥
+unfolding requestIn
+other-kind {r} {next} {period} o e = let f : r ≡ S period = ap requestIn e in miss (0 ∷ 1 ∷ 3 ∷ []) 2 tt (rw f at o)
+
+-- an S line of this period
+pub same-period : {period next period′ next′ : ℕ} → Taken (S period) next ≡ Taken (S period′) next′ → period ≡ period′
+unfolding requestIn periodIn
+same-period e = ap (λ (n : Next). periodIn (requestIn n)) e
