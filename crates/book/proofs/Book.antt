@@ -8,9 +8,10 @@ use borrow.Author.Tests.{lt-ltb, le-ltb}
 use Rattle.words.specs.Word.{if_then_else_}
 use Rattle.rules.specs.declared.Settings.{Settings}
 use Rattle.rules.specs.declared.Status.{Status}
+use Rattle.rules.specs.declared.Reading.{Reading}
 use Rattle.rules.specs.declared.Motor.{Motor}
 use Rattle.rules.specs.Record.{no-end, end-confirmed, end-displaced, end-overdue, idle, freshStatus, fresh, withMode, withPositions, withCommand, withFlags, withPrevious, withStatus}
-use Rattle.rules.specs.Steps.{status1, status2, confirmed, overdue, ended, end4, flags4, status4, status5, status6, status7, status9, issueStatus, status10, issued, step3, timeUp, step4, issue, step9, status1to6, status7to10, steps1to5, steps6to10, step}
+use Rattle.rules.specs.Steps.{status1, reading, status2, confirmed, overdue, ended, end4, flags4, status4, status5, status6, status7, status9, issueStatus, status10, issued, step3, timeUp, step4, issue, step9, status1to6, status7to10, steps1to5, steps6to10, step}
 use Rattle.rules.specs.Scans.{Input}
 use Rattle.book.specs.Log.{Log, none, _▸_, count}
 use Rattle.book.specs.History.{recordOf}
@@ -24,10 +25,10 @@ upOf s v sum p = leb (s .w) (if idle v then sum else sum + p)
 
 -- a command under way ends in step 4, and the end that this gives
 unfoldable pub endsIn : Settings → Status → ℕ → Bool → Bool
-endsIn s v word up = ended s (status2 s (status1 v word) word) word up
+endsIn s v word up = ended (status2 s (status1 v word) (reading s word)) (reading s word) up
 
 unfoldable pub endIn : Settings → Status → ℕ → Bool → ℕ
-endIn s v word up = end4 s (status2 s (status1 v word) word) word up
+endIn s v word up = end4 (status2 s (status1 v word) (reading s word)) (reading s word) up
 
 step9-settings : (m : Motor) (c : ℕ) → step9 m c .settings ≡ m .settings
 unfolding step9 if_then_else_ issue
@@ -102,15 +103,15 @@ end-after s v word up = go (eqb (issued s (status1to6 s v word up) word) 0)
     go false = refl
 
 -- with no command under way it does not matter whether the time is up
-same4 : (s : Settings) (v : Status) (word : ℕ) (a b t : Bool) → idle v ≡ t → (t ≡ false → a ≡ b) → status4 s v word a ≡ status4 s v word b
+same4 : (v : Status) (r : Reading) (a b t : Bool) → idle v ≡ t → (t ≡ false → a ≡ b) → status4 v r a ≡ status4 v r b
 unfolding status4 ended end4 flags4 overdue
-same4 s v word a b true e h = rw e
-same4 s v word a b false e h = ap (status4 s v word) (h refl)
+same4 v r a b true e h = rw e
+same4 v r a b false e h = ap (status4 v r) (h refl)
 
 same-to6 : (s : Settings) (v : Status) (word : ℕ) (a b : Bool) → (idle v ≡ false → a ≡ b) → status1to6 s v word a ≡ status1to6 s v word b
 unfolding status1to6 idle status2 status1 withFlags withPositions withCommand
 same-to6 s v word a b h =
-    ap (λ (x : Status). status6 s (status5 s x word) word) (same4 s (status2 s (status1 v word) word) word a b (idle v) refl h)
+    ap (λ (x : Status). status6 s (status5 s x word (reading s word)) word) (same4 (status2 s (status1 v word) (reading s word)) (reading s word) a b (idle v) refl h)
 
 -- ---- the time since a scan
 

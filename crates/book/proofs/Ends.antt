@@ -11,6 +11,7 @@ use Rattle.words.specs.Word.{if_then_else_, isSet, withBit, withoutBit, without
 use Rattle.words.proofs.Laws.{if-lt, set-has, set-keeps, clear-keeps}
 use Rattle.rules.specs.declared.Settings.{Settings}
 use Rattle.rules.specs.declared.Status.{Status}
+use Rattle.rules.specs.declared.Reading.{Reading}
 use Rattle.rules.specs.Record.{no-command, no-end, end-confirmed, end-displaced, end-overdue, overdueFlag, idle, freshStatus, withMode, withPositions, withCommand, withFlags, withPrevious}
 use Rattle.rules.specs.Steps.{reading, confirms, confirmed, overdue, ended, end4, flags4, status1, status2, status4, putFlag, status5, status6, flags7, status7, chosen, displaces, starts, issues, issued, flags9, issueStatus, status9, status10, status1to6, status7to10}
 use Rattle.rules.specs.Scans.{Input}
@@ -102,13 +103,13 @@ keeps9 c k f l =
     if-keeps k _ _ _ (set-keeps 4 k _ (omega arith) ∙ g)
     (if-keeps k _ _ _ (set-keeps 5 k _ (omega arith) ∙ g) (if-keeps k _ _ _ (set-keeps 6 k _ l ∙ g) g))
 
-flag4 : (s : Settings) (v : Status) (word : ℕ) (up : Bool) → v .command < 26 → overdue s v word up ≡ true
-    → isSet (overdueFlag (v .command)) (status4 s v word up .flags) ≡ true
+flag4 : (v : Status) (r : Reading) (up : Bool) → v .command < 26 → overdue v r up ≡ true
+    → isSet (overdueFlag (v .command)) (status4 v r up .flags) ≡ true
 unfolding status4 flags4 withFlags withCommand if_then_else_ overdueFlag
-flag4 s v word up l late = rw late (set-has (6 + v .command) (v .flags) (omega arith))
+flag4 v r up l late = rw late (set-has (6 + v .command) (v .flags) (omega arith))
 
 flag-after : (s : Settings) (v : Status) (word : ℕ) (up : Bool) → v .command ≢ 0 → v .command < 26
-    → overdue s (status2 s (status1 v word) word) word up ≡ true
+    → overdue (status2 s (status1 v word) (reading s word)) (reading s word) up ≡ true
     → isSet (overdueFlag (v .command)) (status7to10 s (status1to6 s v word up) word .flags) ≡ true
 unfolding status7to10 status10 withPrevious status9 issueStatus status7 status1to6 status6 status5 status4 status2 status1 withFlags withMode withCommand withPositions if_then_else_ overdueFlag
 flag-after s v word up ne lt late = go (eqb (issued s (status1to6 s v word up) word) 0)
@@ -120,7 +121,7 @@ flag-after s v word up ne lt late = go (eqb (issued s (status1to6 s v word up) w
     above = omega arith
 
     to6 : isSet k (status1to6 s v word up .flags) ≡ true
-    to6 = put-keeps 1 k _ _ (omega arith) ∙ put-keeps 0 k _ _ (omega arith) ∙ flag4 s (status2 s (status1 v word) word) word up lt late
+    to6 = put-keeps 1 k _ _ (omega arith) ∙ put-keeps 0 k _ _ (omega arith) ∙ flag4 (status2 s (status1 v word) (reading s word)) (reading s word) up lt late
 
     at7 : isSet k (status7 s (status1to6 s v word up) word .flags) ≡ true
     at7 = keeps7 s (status1to6 s v word up) word k above ∙ to6
@@ -168,7 +169,7 @@ module _ (s : Settings) (v : Status) (word : ℕ) (up : Bool) (live : idle v ≡
   unfolding x issued issues status1to6 status6 status5 status4 ended withFlags withMode withCommand withPositions status2 status1 confirmed overdue idle
   issued-live = rw live
 
-  late-live : x ≡ false → up ≡ true → overdue s (status2 s (status1 v word) word) word up ≡ true
+  late-live : x ≡ false → up ≡ true → overdue (status2 s (status1 v word) (reading s word)) (reading s word) up ≡ true
   unfolding x overdue status2 status1 withFlags withPositions withCommand idle
   late-live c u = rw (live, c, u)
 

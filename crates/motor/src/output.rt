@@ -5,6 +5,7 @@ ghost use Rattle.rules.specs.Record.{ownOutput, oppositeOutput, dropped};
 ghost use Rattle.rules.specs.Steps.{running, timeUp, pulseOver, drops, raises, raised, withoutOpposite, output9};
 use rules::Motor;
 use rules::Output;
+use rules::Reading;
 use rules::Settings;
 use status::command::is_local;
 use status::command::is_off;
@@ -60,14 +61,14 @@ pub fn is_pulse_over(s: Settings, o: Output) -> bool
 }
 
 // Whether the pulse drops in step 4.
-pub fn is_dropped(m: Motor, word: u32) -> bool
-    ensures { λ r. ⌜ r ≡ drops m word ⌝ }
+pub fn is_dropped(m: Motor, r: Reading) -> bool
+    ensures { λ x. ⌜ x ≡ drops m r ⌝ }
 {
     let s = m.settings;
     let v = m.status;
     let o = m.output;
-    let late = is_overdue(s, v, word, is_time_up(m)) & (o.state == own(v.command));
-    let done = is_confirmed(s, v, word) & has(s.ops1, 7);
+    let late = is_overdue(v, r, is_time_up(m)) & (o.state == own(v.command));
+    let done = is_confirmed(v, r) & has(s.ops1, 7);
     is_running(s, o) & (is_pulse_over(s, o) | late | done)
 }
 

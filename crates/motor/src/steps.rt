@@ -2,7 +2,7 @@
 ghost use mathlib.Core.Path.{_≡_};
 ghost use Rattle.rules.specs.Scans.{SumsFit, Steppable};
 ghost use Rattle.rules.specs.Record.{withStatus};
-ghost use Rattle.rules.specs.Steps.{status1, status2, step3, step4, status5, issue, step9, steps1to5, steps6to10, step};
+ghost use Rattle.rules.specs.Steps.{status1, reading, status2, step3, step4, status5, issue, step9, steps1to5, steps6to10, step};
 use crate::output::choose_output;
 use crate::output::is_dropped;
 use crate::output::is_running;
@@ -10,6 +10,7 @@ use crate::output::is_time_up;
 use crate::output::none;
 use crate::output::output_after;
 use rules::Motor;
+use rules::Reading;
 use rules::Settings;
 use rules::Status;
 use status::choice::acknowledge;
@@ -21,6 +22,7 @@ use status::issue::issue_status;
 use status::issue::keep_word;
 use status::mode::change_mode;
 use status::switches::begin;
+use status::switches::read;
 use status::switches::switches;
 use words::choose;
 use words::masked_out;
@@ -49,19 +51,19 @@ pub fn add_period(m: Motor, period: u32) -> Motor
 }
 
 // Step 4.
-pub fn settle(m: Motor, word: u32) -> Motor
-    ensures { λ r. ⌜ r ≡ step4 m word ⌝ }
+pub fn settle(m: Motor, r: Reading) -> Motor
+    ensures { λ x. ⌜ x ≡ step4 m r ⌝ }
 {
     let s = m.settings;
     let v = m.status;
     let o = m.output;
     let up = is_time_up(m);
-    let ended = is_ended(s, v, word, up);
+    let ended = is_ended(v, r, up);
     Motor {
         settings: s,
-        status: end_command(s, v, word, up),
+        status: end_command(v, r, up),
         sum: choose(ended, 0, m.sum),
-        output: choose_output(is_dropped(m, word), none(), o),
+        output: choose_output(is_dropped(m, r), none(), o),
     }
 }
 
@@ -89,9 +91,10 @@ pub fn issue_any(m: Motor, c: u32) -> Motor
 
 // Steps 1, 2 and 5.
 pub fn idle_status(s: Settings, v: Status, word: u32) -> Status
-    ensures { λ r. ⌜ r ≡ status5 s (status2 s (status1 v word) word) word ⌝ }
+    ensures { λ r. ⌜ r ≡ status5 s (status2 s (status1 v word) (reading s word)) word (reading s word) ⌝ }
 {
-    form_flags(s, switches(s, begin(v, word), word), word)
+    let r = read(s, word);
+    form_flags(s, switches(s, begin(v, word), r), word, r)
 }
 
 // Steps 1 to 5. Where no command is under way and no pulse is running, steps 3 and 4 change nothing and are passed over.
@@ -105,10 +108,11 @@ pub fn first_steps(m: Motor, word: u32, period: u32) -> Motor
     if (v.command == 0) & !is_running(s, o) {
         return with_status(m, idle_status(s, v, word));
     }
-    let begun = with_status(m, switches(s, begin(v, word), word));
-    let settled = settle(add_period(begun, period), word);
+    let r = read(s, word);
+    let begun = with_status(m, switches(s, begin(v, word), r));
+    let settled = settle(add_period(begun, period), r);
     let w = settled.status;
-    with_status(settled, form_flags(s, w, word))
+    with_status(settled, form_flags(s, w, word, r))
 }
 
 // Steps 6 to 10.

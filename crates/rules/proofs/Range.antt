@@ -18,7 +18,7 @@ use Rattle.rules.specs.declared.Motor.{Motor}
 use Rattle.rules.specs.declared.Reading.{Reading}
 use Rattle.rules.specs.declared.Reading.the-variants.{Off, On, Unsure}
 use Rattle.rules.specs.Record.{OPS₁, commands, idle, ownOutput, overdueFlag, freshStatus, dropped, fresh, withMode, withPositions, withCommand, withFlags, withPrevious, withStatus}
-use Rattle.rules.specs.Steps.{flags1, status1, positionRead, flags2, pretended, status2, running, step3, confirmed, overdue, ended, end4, flags4, status4, timeUp, pulseOver, drops, step4, putFlag, status5, modeAsked, status6, flags7, status7, chosen, firstOf, issued, flags9, issueStatus, raised, withoutOpposite, output9, issue, step9, status10, steps1to5, steps6to10, step}
+use Rattle.rules.specs.Steps.{flags1, status1, reading, positionRead, flags2, pretended, status2, running, step3, confirmed, overdue, ended, end4, flags4, status4, timeUp, pulseOver, drops, step4, putFlag, status5, modeAsked, status6, flags7, status7, chosen, firstOf, issued, flags9, issueStatus, raised, withoutOpposite, output9, issue, step9, status10, steps1to5, steps6to10, step}
 use Rattle.rules.specs.Refusals.{settingsInRange, statusInRange, outputInRange, inRange, periodOk, wordOk, oneRefusal, oneAfter}
 use Rattle.rules.specs.Scans.{Input, scans, Steppable}
 use Rattle.rules.proofs.Tables.{and-true}
@@ -94,22 +94,22 @@ read-fits Off = lit< tt
 read-fits On = lit< tt
 read-fits Unsure = lit< tt
 
-keeps2 : (s : Settings) (v : Status) (word : ℕ) → Fits v → Fits (status2 s v word)
+keeps2 : (s : Settings) (v : Status) (r : Reading) → Fits v → Fits (status2 s v r)
 unfolding status2 flags2 pretended
-keeps2 s v word f =
+keeps2 s v r f =
     with-flags
     (with-positions f (under _ (read-fits _) (f .sure)) (under _ (read-fits _) (under _ (lit< tt) (under _ (f .sure) (under _ (lit< tt) (lit< tt))))))
     (under _ (set 2 (lit< tt) (f .flags)) (under _ (set 3 (lit< tt) (f .flags)) (f .flags)))
 
-keeps4 : (s : Settings) (v : Status) (word : ℕ) (up : Bool) → Fits v → Fits (status4 s v word up)
+keeps4 : (v : Status) (r : Reading) (up : Bool) → Fits v → Fits (status4 v r up)
 unfolding status4 end4 flags4 overdueFlag
-keeps4 s v word up f =
+keeps4 v r up f =
     with-flags (with-command f (under _ (lit< tt) (f .command)) (under _ (lit< tt) (under _ (lit< tt) (f .end))))
     (under _ (let c = f .command in set (6 + v .command) (omega arith) (f .flags)) (f .flags))
 
-keeps5 : (s : Settings) (v : Status) (word : ℕ) → Fits v → Fits (status5 s v word)
+keeps5 : (s : Settings) (v : Status) (word : ℕ) (r : Reading) → Fits v → Fits (status5 s v word r)
 unfolding status5
-keeps5 s v word f = with-flags f (put 1 _ (lit< tt) (put 0 _ (lit< tt) (f .flags)))
+keeps5 s v word r f = with-flags f (put 1 _ (lit< tt) (put 0 _ (lit< tt) (f .flags)))
 
 keeps6 : (s : Settings) (v : Status) (word : ℕ) → Fits v → Fits (status6 s v word)
 unfolding status6 modeAsked
@@ -190,18 +190,18 @@ pulse-kept true late done state sum period u g h l = go (leb u (sum + period)) r
     go false e false true = record { state = lit< tt; sum = lit< tt }
     go false e false false = let x = leb-false u (sum + period) e in record { state = g; sum = omega arith }
 
-keeps34 : (m : Motor) (word period : ℕ) → RecordFits m → RecordFits (step4 (step3 m period) word)
+keeps34 : (m : Motor) (r : Reading) (period : ℕ) → RecordFits m → RecordFits (step4 (step3 m period) r)
 unfolding step4 step3 timeUp ended confirmed overdue drops pulseOver running
-keeps34 m word period f =
+keeps34 m r period f =
     let t = f .settings in
-    let late = overdue (m .settings) (m .status) word (timeUp (step3 m period)) && eqb (m .output .state) (ownOutput (m .status .command)) in
-    let done = confirmed (m .settings) (m .status) word && OPS₁ (m .settings) 7 in
+    let late = overdue (m .status) r (timeUp (step3 m period)) && eqb (m .output .state) (ownOutput (m .status .command)) in
+    let done = confirmed (m .status) r && OPS₁ (m .settings) 7 in
     let o =
     pulse-kept (running (m .settings) (m .output)) late done (m .output .state) (m .output .sum) period (m .settings .u) (f .output) (f .pulse)
     (t .u) in
     record {
       settings = f .settings;
-      status = keeps4 (m .settings) (m .status) word _ (f .status);
+      status = keeps4 (m .status) r _ (f .status);
       sum = sum-kept (idle (m .status)) _ (m .sum) period (m .settings .w) (f .sum) (t .w);
       output = o .state;
       pulse = o .sum;
@@ -229,8 +229,9 @@ keeps1to5 : (m : Motor) (word period : ℕ) → RecordFits m → RecordFits (ste
 unfolding steps1to5
 keeps1to5 m word period f =
     let s = m .settings in
-    let g = keeps34 _ word period (with-status f (keeps2 s _ word (keeps1 (m .status) word (f .status)))) in
-    with-status g (keeps5 s _ word (g .status))
+    let r = reading s word in
+    let g = keeps34 _ r period (with-status f (keeps2 s _ r (keeps1 (m .status) word (f .status)))) in
+    with-status g (keeps5 s _ word r (g .status))
 
 keeps6to10 : (m : Motor) (word : ℕ) → word < 131072 → RecordFits m → RecordFits (steps6to10 m word)
 unfolding steps6to10

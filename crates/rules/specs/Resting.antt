@@ -7,7 +7,7 @@ use Rattle.rules.specs.declared.Settings.{Settings}
 use Rattle.rules.specs.declared.Status.{Status}
 use Rattle.rules.specs.declared.Output.{Output}
 use Rattle.rules.specs.Record.{idle}
-use Rattle.rules.specs.Steps.{running, status1, status2, status5, status10}
+use Rattle.rules.specs.Steps.{reading, running, status1, status2, status5, status10}
 
 -- No command is under way, no pulse runs, and no bit of the word has risen.
 unfoldable pub rests : Settings → Status → Output → ℕ → Bool
@@ -15,4 +15,4 @@ rests s v o word = idle v && not (running s o) && eqb (without (v .previous) wor
 
 -- Then steps 1, 2, 5 and 10 are all that is left to do, and they concern the status alone.
 unfoldable pub restedStatus : Settings → Status → ℕ → Status
-restedStatus s v word = status10 (status5 s (status2 s (status1 v word) word) word) word
+restedStatus s v word = let r = reading s word in status10 (status5 s (status2 s (status1 v word) r) word r) word

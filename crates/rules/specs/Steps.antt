@@ -1,7 +1,7 @@
 -- One scan of one motor: the paper's "One scan, in this order", a definition a step (letters and signs: see Record.antt). `statusN` and
 -- `flagsN` are the status and the flags that step N leaves.
 -- Steps 1, 2, 5 to 8 and 10 go by the settings, the status and the input word alone, and so does what steps 4 and 9 do to the status: the
--- book of commands shares them. It has no sums and no output, so it hands step 4 its own answer to whether the time is up.
+-- book of commands shares them. The switches are read once (`reading`); the steps that go by them are handed what they read. It has no sums and no output, so it hands step 4 its own answer to whether the time is up.
 use Prim.Native.Nat.{ℕ, _+_}
 use mathlib.Core.Bool.{Bool, true, false, not, _&&_, _||_}
 use mathlib.Core.List.{List, [], _∷_}
@@ -44,11 +44,10 @@ isSure r = not (eqb (positionRead r) unsure)
 
 -- A sure change between Off and On from the last sure position, with no command under way as the scan began (steps 1 and 2 leave the
 -- command alone), sets flag 2, to On, or 3, to Off.
-unfoldable pub flags2 : Settings → Status → ℕ → ℕ
-flags2 s v word =
-    let read = positionRead (reading s word) in
-    if idle v && eqb (v .sure) off && eqb read on then withBit 2 (v .flags)
-    else if idle v && eqb (v .sure) on && eqb read off then withBit 3 (v .flags)
+unfoldable pub flags2 : Status → Reading → ℕ
+flags2 v r =
+    if idle v && eqb (v .sure) off && eqb (positionRead r) on then withBit 2 (v .flags)
+    else if idle v && eqb (v .sure) on && eqb (positionRead r) off then withBit 3 (v .flags)
     else v .flags
 
 -- Unsure: position 0 if OPS_2 bit 2 = 0; else the last sure position if bit 3 = 0; else Off or On as bit 4 is 0 or 1.
@@ -56,12 +55,11 @@ unfoldable pub pretended : Settings → ℕ → ℕ
 pretended s sure = if not (OPS₂ s 2) then unsure else if not (OPS₂ s 3) then sure else if OPS₂ s 4 then on else off
 
 -- A sure reading becomes the position and the last sure position.
-unfoldable pub status2 : Settings → Status → ℕ → Status
-status2 s v word =
-    let r = reading s word in
+unfoldable pub status2 : Settings → Status → Reading → Status
+status2 s v r =
     withFlags
     (withPositions v (if isSure r then positionRead r else v .sure) (if isSure r then positionRead r else pretended s (v .sure)))
-    (flags2 s v word)
+    (flags2 v r)
 
 -- Step 3. The period is added to the sum of a command under way and of a running pulse; an idle sum stays.
 -- An output is a running pulse if there is one, OPS_1 bit 6 = 1 and U > 0.
@@ -89,25 +87,24 @@ step3 m period =
 unfoldable pub confirms : Reading → ℕ → Bool
 confirms r c = isSure r && eqb (positionRead r) (direction c)
 
-unfoldable pub confirmed : Settings → Status → ℕ → Bool
-confirmed s v word = not (idle v) && confirms (reading s word) (v .command)
+unfoldable pub confirmed : Status → Reading → Bool
+confirmed v r = not (idle v) && confirms r (v .command)
 
-unfoldable pub overdue : Settings → Status → ℕ → Bool → Bool
-overdue s v word up = not (idle v) && not (confirms (reading s word) (v .command)) && up
+unfoldable pub overdue : Status → Reading → Bool → Bool
+overdue v r up = not (idle v) && not (confirms r (v .command)) && up
 
-unfoldable pub ended : Settings → Status → ℕ → Bool → Bool
-ended s v word up = confirmed s v word || overdue s v word up
+unfoldable pub ended : Status → Reading → Bool → Bool
+ended v r up = confirmed v r || overdue v r up
 
 -- the end that this gives
-unfoldable pub end4 : Settings → Status → ℕ → Bool → ℕ
-end4 s v word up = if confirmed s v word then end-confirmed else if overdue s v word up then end-overdue else v .end
+unfoldable pub end4 : Status → Reading → Bool → ℕ
+end4 v r up = if confirmed v r then end-confirmed else if overdue v r up then end-overdue else v .end
 
-unfoldable pub flags4 : Settings → Status → ℕ → Bool → ℕ
-flags4 s v word up = if overdue s v word up then withBit (overdueFlag (v .command)) (v .flags) else v .flags
+unfoldable pub flags4 : Status → Reading → Bool → ℕ
+flags4 v r up = if overdue v r up then withBit (overdueFlag (v .command)) (v .flags) else v .flags
 
-unfoldable pub status4 : Settings → Status → ℕ → Bool → Status
-status4 s v word up =
-    withFlags (withCommand v (if ended s v word up then no-command else v .command) (end4 s v word up)) (flags4 s v word up)
+unfoldable pub status4 : Status → Reading → Bool → Status
+status4 v r up = withFlags (withCommand v (if ended v r up then no-command else v .command) (end4 v r up)) (flags4 v r up)
 
 unfoldable pub timeUp : Motor → Bool
 timeUp m = leb (m .settings .w) (m .sum)
@@ -117,21 +114,21 @@ timeUp m = leb (m .settings .w) (m .sum)
 unfoldable pub pulseOver : Settings → Output → Bool
 pulseOver s o = leb (s .u) (o .sum)
 
-unfoldable pub drops : Motor → ℕ → Bool
-drops m word =
+unfoldable pub drops : Motor → Reading → Bool
+drops m r =
     let s = m .settings in
     let v = m .status in
     let o = m .output in
     running s o
-    && (pulseOver s o || overdue s v word (timeUp m) && eqb (o .state) (ownOutput (v .command)) || confirmed s v word && OPS₁ s 7)
+    && (pulseOver s o || overdue v r (timeUp m) && eqb (o .state) (ownOutput (v .command)) || confirmed v r && OPS₁ s 7)
 
-unfoldable pub step4 : Motor → ℕ → Motor
-step4 m word =
+unfoldable pub step4 : Motor → Reading → Motor
+step4 m r =
     record {
       settings = m .settings;
-      status = status4 (m .settings) (m .status) word (timeUp m);
-      sum = if ended (m .settings) (m .status) word (timeUp m) then 0 else m .sum;
-      output = if drops m word then dropped else m .output;
+      status = status4 (m .status) r (timeUp m);
+      sum = if ended (m .status) r (timeUp m) then 0 else m .sum;
+      output = if drops m r then dropped else m .output;
     }
 
 -- Step 5. Flags 0 and 1 are formed if OPS_2 bit 1 = 1, or bit 1 of the word = 0, or OPS_1 bit 2 = 1; otherwise both are 0.
@@ -142,15 +139,15 @@ faultsFormed s word = OPS₂ s 1 || not (localMode word) || OPS₁ s 2
 unfoldable pub supplyFault : Settings → ℕ → Bool
 supplyFault s word = faultsFormed s word && noSupply word && OPS₁ s 1
 
-unfoldable pub switchFault : Settings → Status → ℕ → Bool
-switchFault s v word = faultsFormed s word && not (isSure (reading s word)) && idle v
+unfoldable pub switchFault : Settings → Status → ℕ → Reading → Bool
+switchFault s v word r = faultsFormed s word && not (isSure r) && idle v
 
 -- a flag put to a value
 unfoldable pub putFlag : ℕ → Bool → ℕ → ℕ
 putFlag k b flags = if b then withBit k flags else withoutBit k flags
 
-unfoldable pub status5 : Settings → Status → ℕ → Status
-status5 s v word = withFlags v (putFlag 1 (switchFault s v word) (putFlag 0 (supplyFault s word) (v .flags)))
+unfoldable pub status5 : Settings → Status → ℕ → Reading → Status
+status5 s v word r = withFlags v (putFlag 1 (switchFault s v word r) (putFlag 0 (supplyFault s word) (v .flags)))
 
 -- Step 6. Mode changes only outside local mode, if exactly one of bits 9 to 11 has risen, no command is under way and no switching
 -- command's bit has risen.
@@ -303,7 +300,9 @@ status10 v word = withPrevious v word
 -- What the ten steps make of the status, as the book of commands takes it too: 1 to 6, where `up` says whether the time of a command
 -- under way is up, and 7 to 10.
 unfoldable pub status1to6 : Settings → Status → ℕ → Bool → Status
-status1to6 s v word up = status6 s (status5 s (status4 s (status2 s (status1 v word) word) word up) word) word
+status1to6 s v word up =
+    let r = reading s word in
+    status6 s (status5 s (status4 (status2 s (status1 v word) r) r up) word r) word
 
 unfoldable pub status7to10 : Settings → Status → ℕ → Status
 status7to10 s v word = status10 (status9 s (status7 s v word) (issued s v word)) word
@@ -312,9 +311,10 @@ status7to10 s v word = status10 (status9 s (status7 s v word) (issued s v word))
 unfoldable pub steps1to5 : Motor → ℕ → ℕ → Motor
 steps1to5 m word period =
     let s = m .settings in
-    let m₂ = withStatus m (status2 s (status1 (m .status) word) word) in
-    let m₄ = step4 (step3 m₂ period) word in
-    withStatus m₄ (status5 s (m₄ .status) word)
+    let r = reading s word in
+    let m₂ = withStatus m (status2 s (status1 (m .status) word) r) in
+    let m₄ = step4 (step3 m₂ period) r in
+    withStatus m₄ (status5 s (m₄ .status) word r)
 
 unfoldable pub steps6to10 : Motor → ℕ → Motor
 steps6to10 m word =

@@ -6,9 +6,7 @@ ghost use Rattle.rules.specs.Steps.{confirms, confirmed, overdue, ended, end4, 
 use crate::command::direction_of;
 use crate::switches::is_sure;
 use crate::switches::position_read;
-use crate::switches::read;
 use rules::Reading;
-use rules::Settings;
 use rules::Status;
 use words::choose;
 use words::with_bit;
@@ -20,17 +18,17 @@ pub fn is_confirming(r: Reading, c: u32) -> bool
     is_sure(r) & (position_read(r) == direction_of(c))
 }
 
-pub fn is_confirmed(s: Settings, v: Status, word: u32) -> bool
-    ensures { λ r. ⌜ r ≡ confirmed s v word ⌝ }
+pub fn is_confirmed(v: Status, r: Reading) -> bool
+    ensures { λ x. ⌜ x ≡ confirmed v r ⌝ }
 {
-    (v.command != 0) & is_confirming(read(s, word), v.command)
+    (v.command != 0) & is_confirming(r, v.command)
 }
 
 // up: whether the monitoring time is up.
-pub fn is_overdue(s: Settings, v: Status, word: u32, up: bool) -> bool
-    ensures { λ r. ⌜ r ≡ overdue s v word up ⌝ }
+pub fn is_overdue(v: Status, r: Reading, up: bool) -> bool
+    ensures { λ x. ⌜ x ≡ overdue v r up ⌝ }
 {
-    (v.command != 0) & !is_confirming(read(s, word), v.command) & up
+    (v.command != 0) & !is_confirming(r, v.command) & up
 }
 
 // The flags with the one of an overdue command c set.
@@ -45,35 +43,35 @@ pub fn with_overdue(flags: u32, c: u32) -> u32
 }
 
 // Whether the command under way ends now.
-pub fn is_ended(s: Settings, v: Status, word: u32, up: bool) -> bool
-    ensures { λ r. ⌜ r ≡ ended s v word up ⌝ }
+pub fn is_ended(v: Status, r: Reading, up: bool) -> bool
+    ensures { λ x. ⌜ x ≡ ended v r up ⌝ }
 {
-    is_confirmed(s, v, word) | is_overdue(s, v, word, up)
+    is_confirmed(v, r) | is_overdue(v, r, up)
 }
 
-pub fn end_now(s: Settings, v: Status, word: u32, up: bool) -> u32
-    ensures { λ r. ⌜ r ≡ end4 s v word up ⌝ }
+pub fn end_now(v: Status, r: Reading, up: bool) -> u32
+    ensures { λ x. ⌜ x ≡ end4 v r up ⌝ }
 {
-    let late = choose(is_overdue(s, v, word, up), 3, v.end);
-    choose(is_confirmed(s, v, word), 1, late)
+    let late = choose(is_overdue(v, r, up), 3, v.end);
+    choose(is_confirmed(v, r), 1, late)
 }
 
-pub fn flags_now(s: Settings, v: Status, word: u32, up: bool) -> u32
-    ensures { λ r. ⌜ r ≡ flags4 s v word up ⌝ }
+pub fn flags_now(v: Status, r: Reading, up: bool) -> u32
+    ensures { λ x. ⌜ x ≡ flags4 v r up ⌝ }
 {
     choose(
-        is_overdue(s, v, word, up),
+        is_overdue(v, r, up),
         with_overdue(v.flags, v.command),
         v.flags,
     )
 }
 
-pub fn end_command(s: Settings, v: Status, word: u32, up: bool) -> Status
-    ensures { λ r. ⌜ r ≡ status4 s v word up ⌝ }
+pub fn end_command(v: Status, r: Reading, up: bool) -> Status
+    ensures { λ x. ⌜ x ≡ status4 v r up ⌝ }
 {
     let mut n = v;
-    n.command = choose(is_ended(s, v, word, up), 0, v.command);
-    n.end = end_now(s, v, word, up);
-    n.flags = flags_now(s, v, word, up);
+    n.command = choose(is_ended(v, r, up), 0, v.command);
+    n.end = end_now(v, r, up);
+    n.flags = flags_now(v, r, up);
     n
 }

@@ -2,7 +2,7 @@
 ghost use mathlib.Core.Path.{_≡_};
 ghost use Rattle.rules.specs.Steps.{faultsFormed, supplyFault, switchFault, putFlag, status5};
 use crate::switches::is_sure;
-use crate::switches::read;
+use rules::Reading;
 use rules::Settings;
 use rules::Status;
 use words::choose;
@@ -22,10 +22,10 @@ pub fn lacks_supply(s: Settings, word: u32) -> bool
     are_formed(s, word) & has(word, 6) & has(s.ops1, 1)
 }
 
-pub fn has_switch_fault(s: Settings, v: Status, word: u32) -> bool
-    ensures { λ r. ⌜ r ≡ switchFault s v word ⌝ }
+pub fn has_switch_fault(s: Settings, v: Status, word: u32, r: Reading) -> bool
+    ensures { λ x. ⌜ x ≡ switchFault s v word r ⌝ }
 {
-    are_formed(s, word) & !is_sure(read(s, word)) & (v.command == 0)
+    are_formed(s, word) & !is_sure(r) & (v.command == 0)
 }
 
 pub fn put_flag(flags: u32, k: u32, value: bool) -> u32
@@ -34,11 +34,11 @@ pub fn put_flag(flags: u32, k: u32, value: bool) -> u32
     choose(value, with_bit(flags, k), without_bit(flags, k))
 }
 
-pub fn form_flags(s: Settings, v: Status, word: u32) -> Status
-    ensures { λ r. ⌜ r ≡ status5 s v word ⌝ }
+pub fn form_flags(s: Settings, v: Status, word: u32, r: Reading) -> Status
+    ensures { λ x. ⌜ x ≡ status5 s v word r ⌝ }
 {
     let f = put_flag(v.flags, 0, lacks_supply(s, word));
     let mut n = v;
-    n.flags = put_flag(f, 1, has_switch_fault(s, v, word));
+    n.flags = put_flag(f, 1, has_switch_fault(s, v, word, r));
     n
 }

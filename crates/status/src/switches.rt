@@ -83,10 +83,10 @@ pub fn is_sure(r: Reading) -> bool
 }
 
 // The flags after a change of position that no command asked for.
-pub fn change_flags(s: Settings, v: Status, word: u32) -> u32
-    ensures { λ r. ⌜ r ≡ flags2 s v word ⌝ }
+pub fn change_flags(v: Status, r: Reading) -> u32
+    ensures { λ x. ⌜ x ≡ flags2 v r ⌝ }
 {
-    let seen = position_read(read(s, word));
+    let seen = position_read(r);
     let idle = v.command == 0;
     let to_on = idle & (v.sure == 1) & (seen == 2);
     let to_off = idle & (v.sure == 2) & (seen == 1);
@@ -103,15 +103,14 @@ pub fn pretend(s: Settings, sure: u32) -> u32
 }
 
 // Step 2.
-pub fn switches(s: Settings, v: Status, word: u32) -> Status
-    ensures { λ r. ⌜ r ≡ status2 s v word ⌝ }
+pub fn switches(s: Settings, v: Status, r: Reading) -> Status
+    ensures { λ x. ⌜ x ≡ status2 s v r ⌝ }
 {
-    let r = read(s, word);
     let sure = is_sure(r);
     let seen = position_read(r);
     let mut n = v;
     n.sure = choose(sure, seen, v.sure);
     n.position = choose(sure, seen, pretend(s, v.sure));
-    n.flags = change_flags(s, v, word);
+    n.flags = change_flags(v, r);
     n
 }

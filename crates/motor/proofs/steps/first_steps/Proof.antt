@@ -18,11 +18,11 @@ returns c =
 
 add-period-requires : tie.Need-add-period-requires
 unfolding withStatus
-add-period-requires c κs = let f = c .before .before .before .before .before .before .before .before .before .pre in rw (c .with-status2 .ensures) (record { sum = f .sum; pulse = f .pulse; time = f .time })
+add-period-requires c κs = let f = c .before .before .before .before .before .before .before .before .before .before .pre in rw (c .with-status2 .ensures) (record { sum = f .sum; pulse = f .pulse; time = f .time })
 
 returns-2 : tie.Need-returns-2
 unfolding steps1to5
 returns-2 c = cc
 
 pub first-steps-spec : {M : Type 1} → statement M
-first-steps-spec = tie.close (tie.spec (λ c κs. search needs) (λ c κs. search needs) (λ c κs. search needs) returns (λ c κs. search needs) (λ c κs. search needs) (λ c κs. search needs) add-period-requires (λ c κs. search needs) (λ c κs. search needs) (λ c κs. search needs) returns-2)
+first-steps-spec = tie.close (tie.spec (λ c κs. search needs) (λ c κs. search needs) (λ c κs. search needs) returns (λ c κs. search needs) (λ c κs. search needs) (λ c κs. search needs) (λ c κs. search needs) add-period-requires (λ c κs. search needs) (λ c κs. search needs) (λ c κs. search needs) returns-2)

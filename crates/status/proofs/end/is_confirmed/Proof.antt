@@ -9,4 +9,4 @@ unfolding confirmed idle
 returns c = cc
 
 pub is-confirmed-spec : {M : Type 1} → statement M
-is-confirmed-spec = tie.close (tie.spec (λ c κs. search needs) (λ c κs. search needs) returns)
+is-confirmed-spec = tie.close (tie.spec (λ c κs. search needs) returns)

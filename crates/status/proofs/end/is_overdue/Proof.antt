@@ -9,4 +9,4 @@ unfolding overdue idle
 returns c = cc
 
 pub is-overdue-spec : {M : Type 1} → statement M
-is-overdue-spec = tie.close (tie.spec (λ c κs. search needs) (λ c κs. search needs) returns)
+is-overdue-spec = tie.close (tie.spec (λ c κs. search needs) returns)

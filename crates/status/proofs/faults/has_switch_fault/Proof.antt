@@ -9,4 +9,4 @@ unfolding switchFault idle
 returns c = cc
 
 pub has-switch-fault-spec : {M : Type 1} → statement M
-has-switch-fault-spec = tie.close (tie.spec (λ c κs. search needs) (λ c κs. search needs) (λ c κs. search needs) returns)
+has-switch-fault-spec = tie.close (tie.spec (λ c κs. search needs) (λ c κs. search needs) returns)

@@ -9,4 +9,4 @@ unfolding flags2 idle
 returns c = cc
 
 pub change-flags-spec : {M : Type 1} → statement M
-change-flags-spec = tie.close (tie.spec (λ c κs. search needs) (λ c κs. search needs) (λ c κs. search needs) (λ c κs. search needs) (λ c κs. search needs) (λ c κs. search needs) returns)
+change-flags-spec = tie.close (tie.spec (λ c κs. search needs) (λ c κs. search needs) (λ c κs. search needs) (λ c κs. search needs) (λ c κs. search needs) returns)
