@@ -6,84 +6,71 @@ use mathlib.Core.List.{List, [], _∷_, _++_, append-nil, append-assoc}
 use native.Mathlib.Omega.{arith}
 use lib.Dec.{leb}
 use lib.ListN.{length, take, length-append}
-use borrow.Author.Tests.{leb-true, leb-false}
+use borrow.Author.Tests.{leb-true, leb-false, lt-ltb, le-ltb}
+use Rattle.words.specs.Word.{if_then_else_}
 use Rattle.rules.specs.Refusals.{mostMotors, partRefusal, partAfter}
 use Rattle.rules.specs.declared.Motor.{Motor}
 use Rattle.rules.proofs.Tables.{and-true, length-part}
 use Rattle.sheet.specs.declared.Request.{Request}
 use Rattle.sheet.specs.declared.Request.the-variants.{Motor as M, Input as I, Scan as S, Refused}
-use Rattle.sheet.specs.declared.Next.the-variants.{Taken}
+use Rattle.sheet.specs.declared.Next.the-variants.{Taken, Done}
 use Rattle.sheet.specs.Grammar.{nextAt}
 use Rattle.sheet.proofs.RequestLaws.{Step, taken as taken-step}
 use Rattle.report.specs.Put.{Put}
 use Rattle.report.specs.Print.{refusalOf}
-use Rattle.report.proofs.PutLaws.{put-none, put-length, then}
+use Rattle.report.proofs.PutLaws.{put-none, put-length, then as and-then}
 use Rattle.report.proofs.PrintLaws.{refusal-length}
 use Rattle.interpreter.specs.State.{State, emptyState, nextNumber, withWords, refusalFor, changed, stateAfter, viewOf}
-use Rattle.interpreter.specs.Print.{rowsOf, answerOf, printOf}
-use Rattle.interpreter.specs.Advance.{restFrom, restOf, mostPut, NoScan, Begin, Advance, Fill}
+use Rattle.interpreter.specs.Print.{rowsOf, answerOf, atEnd, tooLong}
+use Rattle.interpreter.specs.Advance.{placeOf, Through, mostPut, NoScan, opening, Begin, Advance, Fill}
+use Rattle.interpreter.specs.Advance.Through.{none, accepted, refused, ended}
 use Rattle.interpreter.specs.Inputs.{Run, Scans, Room}
 use Rattle.interpreter.specs.declared.Bench.{Bench}
 use Rattle.interpreter.specs.declared.Acted.{Acted}
 use Rattle.interpreter.specs.declared.inputs.Inputs.{Inputs}
 use Rattle.interpreter.specs.declared.Sitting.{Sitting}
 use Rattle.interpreter.specs.declared.Advanced.{Advanced}
-use Rattle.interpreter.proofs.ActLaws.{accepted, used, scan-refusal, scanned-state}
-use Rattle.interpreter.proofs.PrintLaws.{answer-length, rest-past, rest-end, rest-accepted, rest-refused, print-long, print-rest}
+use Rattle.interpreter.proofs.ActLaws.{accepted as is-changed, used, scan-refusal, scanned-state}
+use Rattle.interpreter.proofs.PrintLaws.{answer-length, through-then}
 
 -- a bench at a place of a file
 abbrev pub standing : Bench → ℕ → ℕ → ℕ → Advanced
 standing bench at line to = record { sitting = record { bench = bench; at = at; line = line }; to = to }
 
--- past the end nothing is left
-nothing-left : (file : List ℕ) (b : Bench) (k : ℕ) → restFrom file (length file + 1) (viewOf b) k ≡ []
-nothing-left file b k = rest-past file (length file + 1) (viewOf b) k (omega arith)
-
-all-put : (file : List ℕ) (b : Bench) (k : ℕ) (piece : List ℕ) → piece ≡ piece ++ restFrom file (length file + 1) (viewOf b) k
-all-put file b k piece = sym (ap (λ (l : List ℕ). piece ++ l) (nothing-left file b k) ∙ append-nil piece)
-
 module _ {file : List ℕ} {b : Bench} {to : ℕ} {out : List ℕ} where
-  pub begun-long : {after : List ℕ} {n : ℕ} → 65536 < length file → Put out to (refusalOf 0 1) after n → Begin file out to after (standing b (length file + 1) 1 n)
-  begun-long h p =
-      record {
-        piece = refusalOf 0 1;
-        put = p;
-        rest = print-long file h ∙ all-put file b 1 (refusalOf 0 1);
-        short = omega (arith, refusal-length 0 1);
-      }
+  pub begun-long : {after : List ℕ} {n : ℕ} → viewOf b ≡ emptyState → 65536 < length file → Put out to (refusalOf 0 1) after n
+      → Begin file out to after (standing b (length file + 1) 1 n)
+  unfolding opening tooLong if_then_else_
+  begun-long e h p = let l = lt-ltb 65536 (length file) h in record { put = rw l p; at = rw l refl; state = e; line = refl }
 
   pub begun : viewOf b ≡ emptyState → length file ≤ 65536 → Begin file out to out (standing b 0 1 to)
-  begun e h =
-      record {
-        piece = [];
-        put = put-none;
-        rest = print-rest file h ∙ ap (λ (t : State). restFrom file 0 t 1) (sym e);
-        short = omega arith;
-      }
+  unfolding opening tooLong if_then_else_
+  begun e h = let l = le-ltb 65536 (length file) h in record { put = rw l put-none; at = rw l refl; state = e; line = refl }
 
 module _ {file : List ℕ} {s : Sitting} {to : ℕ} {out : List ℕ} where
   -- nothing was left to take
-  pub at-end : length file ≤ s .at → Advance file s out to out (standing (s .bench) (length file + 1) (s .line) to)
-  at-end h =
+  pub at-end : s .at ≤ length file → nextAt file (s .at) ≡ Done → Advance file s out to out (standing (s .bench) (length file + 1) (s .line) to)
+  unfolding atEnd
+  at-end l f =
       record {
         piece = [];
+        through = ended none l f;
         put = put-none;
-        rest = rest-end file (s .at) (viewOf (s .bench)) (s .line) h ∙ all-put file (s .bench) (s .line) [];
         short = omega arith;
-        further = λ l. omega arith;
+        further = omega arith;
       }
 
-  module _ {r : Request} {next : ℕ} (line : Step file (s .at) r next) (a : Acted) (code : a .refusal ≡ refusalFor (viewOf (s .bench)) r) where
+  module _ {r : Request} {next : ℕ} (found : nextAt file (s .at) ≡ Taken r next) (a : Acted) (code : a .refusal ≡ refusalFor (viewOf (s .bench)) r) where
     -- a request that is refused
     pub stops : {after : List ℕ} {n : ℕ} → (a .refusal ≡ 0 → ⊥) → Put out to (refusalOf (s .line) (a .refusal)) after n
         → Advance file s out to after (standing (s .bench) (length file + 1) (s .line) n)
     stops h p =
         record {
           piece = refusalOf (s .line) (a .refusal);
+          through = rw code (refused none found (λ q. h (code ∙ q)));
           put = p;
-          rest = rest-refused file (s .at) (viewOf (s .bench)) (s .line) line (λ q. h (code ∙ q)) ∙ rw (← code) (all-put file (s .bench) (s .line) (refusalOf (s .line) (a .refusal)));
           short = omega (arith, refusal-length (s .line) (a .refusal));
-          further = λ l. omega arith;
+          further = let line = taken-step file (s .at) r next found in omega (arith, line .further, line .within);
         }
 
     -- a request that is accepted
@@ -91,27 +78,26 @@ module _ {file : List ℕ} {s : Sitting} {to : ℕ} {out : List ℕ} where
         → Put out to (answerOf (viewOf (a .bench)) r) after n → Advance file s out to after (standing (a .bench) next (nextNumber (s .line)) n)
     unfolding mostMotors
     goes-on e is h p =
-        let q = e ∙ accepted (viewOf (s .bench)) r (sym code ∙ h) in
+        let q = e ∙ is-changed (viewOf (s .bench)) r (sym code ∙ h) in
         record {
           piece = answerOf (viewOf (a .bench)) r;
+          through = rw q (accepted none found (sym code ∙ h));
           put = p;
-          rest = rest-accepted file (s .at) (viewOf (s .bench)) (s .line) line (sym code ∙ h) ∙ rw (← q);
           short = answer-length (viewOf (a .bench)) r (omega (arith, used (a .bench .count) (a .bench .motors) is));
-          further = λ l. omega (arith, line .further);
+          further = taken-step file (s .at) r next found .further;
         }
 
     -- one that is no scan prints nothing
-    pub goes-on-quietly : NoScan file s → nextAt file (s .at) ≡ Taken r next → viewOf (a .bench) ≡ stateAfter (viewOf (s .bench)) r
-        → length (a .bench .motors) ≡ 32 → a .refusal ≡ 0 → Advance file s out to out (standing (a .bench) next (nextNumber (s .line)) to)
+    pub goes-on-quietly : NoScan file s → viewOf (a .bench) ≡ stateAfter (viewOf (s .bench)) r → length (a .bench .motors) ≡ 32 → a .refusal ≡ 0
+        → Advance file s out to out (standing (a .bench) next (nextNumber (s .line)) to)
     unfolding answerOf
-    goes-on-quietly none at e is h = goes-on e is h (rw (no-rows-of r none at (sym code ∙ h)) put-none)
+    goes-on-quietly no-scan e is h = goes-on e is h (rw (no-rows-of r found (sym code ∙ h)) put-none)
       where
-        no-rows-of : (q : Request) → NoScan file s → nextAt file (s .at) ≡ Taken q next → refusalFor (viewOf (s .bench)) q ≡ 0
-            → answerOf (viewOf (a .bench)) q ≡ []
-        no-rows-of (M number ops1 ops2 w u) none at e = refl
-        no-rows-of (I number word) none at e = refl
-        no-rows-of (S period) none at e = absurd (none period next at e)
-        no-rows-of Refused none at e = refl
+        no-rows-of : (q : Request) → nextAt file (s .at) ≡ Taken q next → refusalFor (viewOf (s .bench)) q ≡ 0 → answerOf (viewOf (a .bench)) q ≡ []
+        no-rows-of (M number ops1 ops2 w u) at e = refl
+        no-rows-of (I number word) at e = refl
+        no-rows-of (S period) at e = absurd (no-scan period next at e)
+        no-rows-of Refused at e = refl
 
 -- ---- runs of I and S lines
 
@@ -129,9 +115,9 @@ module _ {file : List ℕ} {s : Sitting} {out : List ℕ} {to last : ℕ} where
   scans-none h =
       record {
         piece = [];
+        through = none;
         put = put-none;
         fits = omega arith;
-        rest = refl;
         onward = omega arith;
         within = λ l. l;
         moved = λ l. absurd (omega arith);
@@ -144,9 +130,9 @@ module _ {file : List ℕ} {s : Sitting} {out : List ℕ} {to last : ℕ} where
   scans-line-of r h room further within a =
       record {
         piece = r .piece ++ a .piece;
-        put = then (r .put) (a .put);
+        put = and-then (r .put) (a .put);
         fits = omega (arith, length-append (r .piece) (a .piece), r .fits, r .put .place, a .short);
-        rest = r .rest ∙ ap (λ (l : List ℕ). r .piece ++ l) (a .rest) ∙ sym (append-assoc (r .piece) (a .piece) _);
+        through = through-then (r .through) (a .through);
         onward = omega (arith, r .onward);
         within = λ l. within;
         moved = λ l. omega (arith, r .onward);
@@ -162,7 +148,7 @@ module _ {file : List ℕ} {s : Sitting} {out : List ℕ} {to last : ℕ} where
           piece = r .piece;
           put = r .put;
           fits = r .fits;
-          rest = r .rest ∙ ap (λ (l : List ℕ). r .piece ++ l) (run .same (viewOf (here .bench)) (here .bench .count) (used (here .bench .count) (here .bench .motors) is) refl);
+          through = rw (← append-nil (r .piece)) (through-then (r .through) (run .through (viewOf (here .bench)) (here .bench .count) (used (here .bench .count) (here .bench .motors) is) refl));
           onward = omega (arith, r .onward, run .onward);
           within = λ l. run .within (r .within l);
           moved = λ l. omega (arith, r .moved l, run .onward);
@@ -182,7 +168,7 @@ module _ {file : List ℕ} {s : Sitting} {out : List ℕ} {to last : ℕ} where
         let line = taken-step file (i .at) (S period) next found in
         let js₁ = run .size ∙ js in
         scans-line-of (scans-inputs i is run) h room (line .further) (line .within)
-        (goes-on {s = afterRun here i} line (record { refusal = refusal; bench = record { motors = records; words = i .words; count = here .bench .count; scans = nextNumber (here .bench .scans) } })
+        (goes-on {s = afterRun here i} found (record { refusal = refusal; bench = record { motors = records; words = i .words; count = here .bench .count; scans = nextNumber (here .bench .scans) } })
         (e ∙ scan-refusal b is js₁ period) (scanned-state b is js₁ period refusal records e f z) (ap length f ∙ length-part (here .bench .motors) (min (here .bench .count) mostMotors) (i .words) period ∙ is) z p)
 
 -- ---- a buffer filled line by line
@@ -191,20 +177,20 @@ pub record Filling (file : List ℕ) (s : Sitting) (out : List ℕ) (here : Sitt
   pub done : List ℕ
   pub put : Put out 0 done after to
   pub fits : length done ≤ length out
-  pub rest : restOf file s ≡ done ++ restOf file here
+  pub through : Through file (placeOf s) done (placeOf here)
   pub onward : s .at ≤ here .at
   pub moved : 0 < to → s .at < here .at
 
 module _ {file : List ℕ} {s : Sitting} {out : List ℕ} where
   pub filling-none : Filling file s out s out 0
-  filling-none = record { done = []; put = put-none; fits = omega arith; rest = refl; onward = omega arith; moved = λ l. absurd (omega arith) }
+  filling-none = record { done = []; through = none; put = put-none; fits = omega arith; onward = omega arith; moved = λ l. absurd (omega arith) }
 
   pub none-filled : length out < mostPut → Fill file s out out (record { sitting = s; to = 0 })
-  none-filled h = record { piece = []; put = put-none; fits = omega arith; rest = refl; further = λ l. absurd (omega arith) }
+  none-filled h = record { piece = []; through = none; put = put-none; fits = omega arith; further = λ l. absurd (omega arith) }
 
   module _ {here : Sitting} {after : List ℕ} {to : ℕ} (f : Filling file s out here after to) where
     -- lines are left, and room for a piece more
-    taken : (leb (here .at) (length file) && leb to (length out - mostPut)) ≡ true → (here .at ≤ length file) × (to ≤ length out - mostPut)
+    pub taken : (leb (here .at) (length file) && leb to (length out - mostPut)) ≡ true → (here .at ≤ length file) × (to ≤ length out - mostPut)
     taken t =
         let b = and-true (leb (here .at) (length file)) (leb to (length out - mostPut)) t in
         (leb-true (here .at) (length file) (b .0), leb-true to (length out - mostPut) (b .1))
@@ -219,9 +205,9 @@ module _ {file : List ℕ} {s : Sitting} {out : List ℕ} where
         let b = taken t in
         record {
           piece = f .done ++ c .piece;
-          put = then (f .put) (c .put);
+          put = and-then (f .put) (c .put);
           fits = omega (arith, length-append (f .done) (c .piece), f .fits, f .put .place, c .fits);
-          rest = f .rest ∙ ap (λ (l : List ℕ). f .done ++ l) (c .rest) ∙ sym (append-assoc (f .done) (c .piece) _);
+          through = through-then (f .through) (c .through);
           further = λ l m. omega (arith, f .onward, c .moved (omega (arith, b .1, over)));
         }
 
@@ -231,15 +217,15 @@ module _ {file : List ℕ} {s : Sitting} {out : List ℕ} where
         → (leb (here .at) (length file) && leb to (length out - mostPut)) ≡ true → mostPut ≤ length out → Filling file s out (r .sitting) later (r .to)
     filling-more c under a t room =
         let b = taken t in
-        let more = then (c .put) (a .put) in
+        let more = and-then (c .put) (a .put) in
         let long = length-append (f .done) (c .piece ++ a .piece) in
         let longer = length-append (c .piece) (a .piece) in
-        let far = a .further (c .within (b .0)) in
+        let far = a .further in
         record {
           done = f .done ++ (c .piece ++ a .piece);
-          put = then (f .put) more;
+          put = and-then (f .put) more;
           fits = omega (arith, long, longer, f .fits, f .put .place, c .fits, c .put .place, put-length (f .put), a .short);
-          rest = f .rest ∙ ap (λ (l : List ℕ). f .done ++ l) (c .rest ∙ ap (λ (l : List ℕ). c .piece ++ l) (a .rest) ∙ sym (append-assoc (c .piece) (a .piece) _)) ∙ sym (append-assoc (f .done) (c .piece ++ a .piece) _);
+          through = through-then (f .through) (through-then (c .through) (a .through));
           onward = omega (arith, f .onward, c .onward, far);
           moved = λ l. omega (arith, f .onward, c .onward, far);
         }
@@ -250,7 +236,7 @@ module _ {file : List ℕ} {s : Sitting} {out : List ℕ} where
           piece = f .done;
           put = f .put;
           fits = f .fits;
-          rest = f .rest;
+          through = f .through;
           further = λ room l. go l (leb (here .at) (length file)) refl (leb to (length out - mostPut)) refl t;
         }
       where

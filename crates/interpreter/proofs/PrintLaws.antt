@@ -15,12 +15,13 @@ use Rattle.rules.specs.declared.Motor.{Motor}
 use Rattle.sheet.specs.declared.Request.{Request}
 use Rattle.sheet.specs.declared.Request.the-variants.{Motor as M, Input as I, Scan as S, Refused}
 use Rattle.sheet.specs.Grammar.{requestsOf, requestRefusal}
-use Rattle.sheet.proofs.RequestLaws.{Step, requests-end}
+use Rattle.sheet.proofs.RequestLaws.{Step, requests-end, taken, done}
 use Rattle.report.specs.Print.{rowOf, refusalOf}
 use Rattle.report.proofs.PrintLaws.{row-length}
 use Rattle.interpreter.specs.State.{State, emptyState, nextNumber, refusalFor, changed}
 use Rattle.interpreter.specs.Print.{motorRow, rowsOf, answerOf, atEnd, printFrom, tooLong, printOf}
-use Rattle.interpreter.specs.Advance.{restFrom, mostPut}
+use Rattle.interpreter.specs.Advance.{Place, over, Through, mostPut}
+use Rattle.interpreter.specs.Advance.Through.{none, accepted, refused, ended}
 
 -- ---- the rows of the motors
 
@@ -76,6 +77,12 @@ not-accepted t Refused h e = omega arith
 
 -- ---- what is left to print from a place on
 
+unfoldable pub restFrom : List ℕ → ℕ → State → ℕ → List ℕ
+restFrom file at t k = if ltb (length file) at then [] else printFrom atEnd (requestsOf (drop at file)) t k
+
+abbrev pub restAt : List ℕ → Place → List ℕ
+restAt file p = restFrom file (p .at) (p .state) (p .line)
+
 module _ (file : List ℕ) (at : ℕ) (t : State) (k : ℕ) where
   pub rest-past : length file < at → restFrom file at t k ≡ []
   unfolding restFrom if_then_else_
@@ -85,14 +92,10 @@ module _ (file : List ℕ) (at : ℕ) (t : State) (k : ℕ) where
   unfolding restFrom if_then_else_
   rest-from h = rw (le-ltb (length file) at h)
 
-  -- at the end, and past it
-  pub rest-end : length file ≤ at → restFrom file at t k ≡ []
-  unfolding restFrom if_then_else_ printFrom atEnd
-  rest-end h = rw (requests-end file at h) (go (ltb (length file) at))
-    where
-      go : (b : Bool) → _≡_ {A = List ℕ} (if b then [] else []) []
-      go true = refl
-      go false = refl
+  -- at the end
+  pub rest-end : at ≤ length file → length file ≤ at → restFrom file at t k ≡ atEnd t
+  unfolding printFrom
+  rest-end h l = rest-from h ∙ rw (requests-end file at l)
 
   module _ {r : Request} {next : ℕ} (s : Step file at r next) where
     here : restFrom file at t k ≡ printFrom atEnd (r ∷ s .rest) t k
@@ -106,6 +109,35 @@ module _ (file : List ℕ) (at : ℕ) (t : State) (k : ℕ) where
 
     pub rest-refused : (refusalFor t r ≡ 0 → ⊥) → restFrom file at t k ≡ refusalOf k (refusalFor t r)
     rest-refused h = here ∙ from-refused atEnd r (s .rest) t k h
+
+-- ---- the lines that were taken, and what is left
+
+-- past the end nothing is left
+nothing-left : (file : List ℕ) (p : Place) (piece : List ℕ) → piece ≡ piece ++ restAt file (over file p)
+nothing-left file p piece = sym (ap (λ (l : List ℕ). piece ++ l) (rest-past file (length file + 1) (p .state) (p .line) (omega arith)) ∙ append-nil piece)
+
+module _ {file : List ℕ} {from : Place} where
+  pub through-rest : {piece : List ℕ} {p : Place} → Through file from piece p → restAt file from ≡ piece ++ restAt file p
+  through-rest none = refl
+  through-rest (accepted {piece} {p} {r} {next} c f h) =
+      through-rest c
+      ∙ ap (λ (l : List ℕ). piece ++ l) (rest-accepted file (p .at) (p .state) (p .line) (taken file (p .at) r next f) h)
+      ∙ sym (append-assoc piece (answerOf (changed (p .state) r) r) _)
+  through-rest (refused {piece} {p} {r} {next} c f h) =
+      through-rest c
+      ∙ ap (λ (l : List ℕ). piece ++ l) (rest-refused file (p .at) (p .state) (p .line) (taken file (p .at) r next f) h)
+      ∙ nothing-left file p (piece ++ refusalOf (p .line) (refusalFor (p .state) r))
+  through-rest (ended {piece} {p} c l f) =
+      through-rest c
+      ∙ ap (λ (l : List ℕ). piece ++ l) (rest-end file (p .at) (p .state) (p .line) l (done file (p .at) f))
+      ∙ nothing-left file p (piece ++ atEnd (p .state))
+
+  -- lines, and then more
+  pub through-then : {mid to : Place} {front back : List ℕ} → Through file from front mid → Through file mid back to → Through file from (front ++ back) to
+  through-then {front = front} c none = rw (append-nil front) c
+  through-then {front = front} c (accepted {piece} {p} {r} d f h) = rw (← append-assoc front piece (answerOf (changed (p .state) r) r)) (accepted (through-then c d) f h)
+  through-then {front = front} c (refused {piece} {p} {r} d f h) = rw (← append-assoc front piece (refusalOf (p .line) (refusalFor (p .state) r))) (refused (through-then c d) f h)
+  through-then {front = front} c (ended {piece} {p} d l f) = rw (← append-assoc front piece (atEnd (p .state))) (ended (through-then c d) l f)
 
 -- ---- the whole print
 

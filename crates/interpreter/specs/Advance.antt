@@ -1,25 +1,43 @@
 -- What a call that takes the next lines of a file does: it puts what they print into the lent buffer.
-use Prim.Native.Nat.{ℕ, _<_, _≤_}
+use Prim.Native.Nat.{ℕ, _+_, _<_, _≤_}
 use mathlib.Core.Path.{_≡_}
 use mathlib.Core.List.{List, [], _++_}
-use lib.Dec.{ltb}
-use lib.ListN.{length, drop}
+use lib.ListN.{length}
 use Rattle.words.specs.Word.{if_then_else_}
-use Rattle.sheet.specs.Grammar.{requestsOf, nextAt}
+use Rattle.sheet.specs.Grammar.{nextAt}
+use Rattle.sheet.specs.declared.Request.{Request}
 use Rattle.sheet.specs.declared.Request.the-variants.{Scan as S}
-use Rattle.sheet.specs.declared.Next.the-variants.{Taken}
+use Rattle.sheet.specs.declared.Next.the-variants.{Taken, Done}
 use Rattle.report.specs.Put.{Put}
-use Rattle.interpreter.specs.State.{State, refusalFor, viewOf}
-use Rattle.interpreter.specs.Print.{printFrom, printOf, atEnd}
+use Rattle.report.specs.Print.{refusalOf}
+use Rattle.interpreter.specs.State.{State, emptyState, nextNumber, refusalFor, changed, viewOf}
+use Rattle.interpreter.specs.Print.{answerOf, atEnd, tooLong}
 use Rattle.interpreter.specs.declared.Sitting.{Sitting}
 use Rattle.interpreter.specs.declared.Advanced.{Advanced}
 
--- What is still to be printed from a place on, where line number k begins. A place past the file's end says that all is printed.
-unfoldable pub restFrom : List ℕ → ℕ → State → ℕ → List ℕ
-restFrom file at t k = if ltb (length file) at then [] else printFrom atEnd (requestsOf (drop at file)) t k
+-- A state at a place of a file, where the line of this number begins. A place past the file's end says that all is printed.
+pub record Place : Type 0 where
+  pub at : ℕ
+  pub state : State
+  pub line : ℕ
 
-abbrev pub restOf : List ℕ → Sitting → List ℕ
-restOf file s = restFrom file (s .at) (viewOf (s .bench)) (s .line)
+abbrev pub placeOf : Sitting → Place
+placeOf s = record { at = s .at; state = viewOf (s .bench); line = s .line }
+
+abbrev pub over : List ℕ → Place → Place
+over file p = record { at = length file + 1; state = p .state; line = p .line }
+
+-- Lines taken one after another, from a place on: what they print, and the place that they lead to. A refused line is the last, and leaves
+-- the state as it was; so does the end of the file.
+pub data Through (file : List ℕ) (from : Place) : List ℕ → Place → Type 0 where
+  none : Through file from [] from
+  accepted : {piece : List ℕ} {p : Place} {r : Request} {next : ℕ} → Through file from piece p → nextAt file (p .at) ≡ Taken r next
+      → refusalFor (p .state) r ≡ 0
+      → Through file from (piece ++ answerOf (changed (p .state) r) r) (record { at = next; state = changed (p .state) r; line = nextNumber (p .line) })
+  refused : {piece : List ℕ} {p : Place} {r : Request} {next : ℕ} → Through file from piece p → nextAt file (p .at) ≡ Taken r next
+      → (refusalFor (p .state) r ≡ 0 → ⊥) → Through file from (piece ++ refusalOf (p .line) (refusalFor (p .state) r)) (over file p)
+  ended : {piece : List ℕ} {p : Place} → Through file from piece p → p .at ≤ length file → nextAt file (p .at) ≡ Done
+      → Through file from (piece ++ atEnd (p .state)) (over file p)
 
 -- Most that one line prints: a row of 90 bytes for each of 32 motors
 abbrev pub mostPut : ℕ
@@ -29,26 +47,30 @@ mostPut = 2880
 abbrev pub NoScan : List ℕ → Sitting → Type 0
 NoScan file s = (period next : ℕ) → nextAt file (s .at) ≡ Taken (S period) next → refusalFor (viewOf (s .bench)) (S period) ≡ 0 → ⊥
 
--- One line: a piece of what was still to be printed is put, and the rest is still to be printed; and each call but those past the end goes
--- further.
+-- One line, or the end of the file: what it prints is put.
 pub record Advance (file : List ℕ) (s : Sitting) (out : List ℕ) (to : ℕ) (after : List ℕ) (r : Advanced) : Type 0 where
   pub piece : List ℕ
+  pub through : Through file (placeOf s) piece (placeOf (r .sitting))
   pub put : Put out to piece after (r .to)
-  pub rest : restOf file s ≡ piece ++ restOf file (r .sitting)
   pub short : length piece ≤ mostPut
-  pub further : s .at ≤ length file → s .at < r .sitting .at
+  pub further : s .at < r .sitting .at
 
--- What `begin` does: it puts the refusal of a file that is too long, and otherwise leaves the whole print to the calls of `fill`.
+-- What stands before the prints of the lines: the refusal of a file that is too long
+unfoldable pub opening : List ℕ → List ℕ
+opening file = if tooLong (length file) then refusalOf 0 1 else []
+
+-- What `begin` does: it puts this, and an empty bench stands before the first line, or past the end of a file that is too long.
 pub record Begin (file : List ℕ) (out : List ℕ) (to : ℕ) (after : List ℕ) (r : Advanced) : Type 0 where
-  pub piece : List ℕ
-  pub put : Put out to piece after (r .to)
-  pub rest : printOf file ≡ piece ++ restOf file (r .sitting)
-  pub short : length piece ≤ mostPut
+  pub put : Put out to (opening file) after (r .to)
+  pub at : r .sitting .at ≡ (if tooLong (length file) then length file + 1 else 0)
+  pub state : viewOf (r .sitting .bench) ≡ emptyState
+  pub line : r .sitting .line ≡ 1
 
--- What `fill` does: it takes lines as long as the buffer has room for what one more may print. What they print stands at its start, whole.
+-- What `fill` does: it takes lines, at least one where the buffer has room for what one line may print. What they print stands at its start,
+-- whole.
 pub record Fill (file : List ℕ) (s : Sitting) (out after : List ℕ) (r : Advanced) : Type 0 where
   pub piece : List ℕ
+  pub through : Through file (placeOf s) piece (placeOf (r .sitting))
   pub put : Put out 0 piece after (r .to)
   pub fits : length piece ≤ length out
-  pub rest : restOf file s ≡ piece ++ restOf file (r .sitting)
   pub further : mostPut ≤ length out → s .at ≤ length file → s .at < r .sitting .at

@@ -2,14 +2,14 @@
 use Prim.Native.Nat.{ℕ, _+_, _<_, _≤_, min}
 use mathlib.Core.Path.{_≡_}
 use mathlib.Core.Bool.{true, false}
-use mathlib.Core.List.{List, _++_}
+use mathlib.Core.List.{List, []}
 use lib.ListN.{length, take}
 use Rattle.rules.specs.Refusals.{mostMotors, allOk, inRange, wordOk, periodOk}
 use Rattle.sheet.specs.Grammar.{nextAt}
 use Rattle.sheet.specs.declared.Request.the-variants.{Input as I, Scan as S}
 use Rattle.sheet.specs.declared.Next.the-variants.{Taken}
 use Rattle.interpreter.specs.State.{State, inputRefusal, withWords}
-use Rattle.interpreter.specs.Advance.{restFrom, restOf, mostPut, NoScan}
+use Rattle.interpreter.specs.Advance.{placeOf, Through, mostPut, NoScan}
 use Rattle.report.specs.Put.{Put}
 use Rattle.interpreter.specs.declared.inputs.NextInput.{NextInput}
 use Rattle.interpreter.specs.declared.inputs.NextInput.the-variants.{Word, Other}
@@ -24,10 +24,11 @@ abbrev pub Found : List ℕ → ℕ → ℕ → NextInput → Type 0
 Found file held at (Word number word next) = (nextAt file at ≡ Taken (I number word) next) × (inputRefusal held number word ≡ 0)
 Found file held at Other = Unit {0}
 
--- Whatever the bench holds besides, what is still to be printed is the same with the words, the place and the line's number after the run.
+-- Whatever the bench holds besides, the lines lead to the words, the place and the line's number after the run, and print nothing.
 pub record Run (file : List ℕ) (held : ℕ) (words : List ℕ) (at line : ℕ) (r : Inputs) : Type 0 where
-  pub same : (t : State) (count : ℕ) → length (t .motors) ≡ held → min count mostMotors ≡ held
-      → restFrom file at (withWords t (take count words)) line ≡ restFrom file (r .at) (withWords t (take count (r .words))) (r .line)
+  pub through : (t : State) (count : ℕ) → length (t .motors) ≡ held → min count mostMotors ≡ held
+      → Through file (record { at = at; state = withWords t (take count words); line = line }) []
+      (record { at = r .at; state = withWords t (take count (r .words)); line = r .line })
   pub size : length (r .words) ≡ length words
   pub right : held ≤ length words → allOk wordOk (take held words) ≡ true → allOk wordOk (take held (r .words)) ≡ true
   pub onward : at ≤ r .at
@@ -46,9 +47,9 @@ pub record Ready (s : Sitting) : Type 0 where
 -- A run of accepted I and S lines: what they print is put, from a place up to `last` on, so that they need room for one piece after that.
 pub record Scans (file : List ℕ) (s : Sitting) (out : List ℕ) (to last : ℕ) (after : List ℕ) (r : Advanced) : Type 0 where
   pub piece : List ℕ
+  pub through : Through file (placeOf s) piece (placeOf (r .sitting))
   pub put : Put out to piece after (r .to)
   pub fits : to + length piece ≤ last + mostPut
-  pub rest : restOf file s ≡ piece ++ restOf file (r .sitting)
   pub onward : s .at ≤ r .sitting .at
   pub within : s .at ≤ length file → r .sitting .at ≤ length file
   pub moved : to < r .to → s .at < r .sitting .at

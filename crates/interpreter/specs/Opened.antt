@@ -2,8 +2,8 @@
 use Rattle.words.specs.Word.{if_then_else_}
 use Rattle.interpreter.specs.State.{emptyState, nextNumber, motorRefusal, withMotor, isThere, inputRefusal, withWords, withWord, scanRefusal, withScan, refusalFor, changed, stateAfter, statesAfter}
 use Rattle.interpreter.specs.Print.{motorRow, rowsOf, answerOf, atEnd, printFrom, linesPrint, tooLong, printOf}
-use Rattle.interpreter.specs.Advance.{restFrom}
+use Rattle.interpreter.specs.Advance.{opening}
 
 unfoldable pub opened : Type 0
-unfolding if_then_else_ emptyState nextNumber motorRefusal withMotor isThere inputRefusal withWords withWord scanRefusal withScan refusalFor changed stateAfter statesAfter motorRow rowsOf answerOf atEnd printFrom linesPrint tooLong printOf restFrom
+unfolding if_then_else_ emptyState nextNumber motorRefusal withMotor isThere inputRefusal withWords withWord scanRefusal withScan refusalFor changed stateAfter statesAfter motorRow rowsOf answerOf atEnd printFrom linesPrint tooLong printOf opening
 opened = Unit {0}

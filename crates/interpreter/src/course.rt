@@ -1,5 +1,7 @@
 // A file taken line by line.
 ghost use mathlib.Core.Path.{_≡_};
+ghost use Prim.Native.Nat.{_≤_};
+ghost use lib.ListN.{length};
 ghost use Rattle.sheet.specs.Grammar.{nextAt};
 ghost use Rattle.sheet.specs.declared.Next.the-variants.{Taken};
 ghost use Rattle.interpreter.specs.Advance.{NoScan, Begin, Advance, Fill};
@@ -60,7 +62,7 @@ fn take_request(
 
 // The next line of a file, that is no accepted scan: what it prints is put from `to` on.
 fn take_line(file: &[u8], s: Sitting, out: &mut [u8], to: usize) -> Advanced
-    requires { ⌜ NoScan (now file) s ⌝ }
+    requires { ⌜ NoScan (now file) s × (s .at ≤ length (now file)) ⌝ }
     ensures { λ r. ⌜ Advance (now (file .entry)) s (now (out .entry)) to (now (out .exit)) r ⌝ }
 {
     match next_request(file, s.at) {

@@ -5,7 +5,7 @@ use Rattle.interpreter.proofs.course.begin.Tie as tie
 
 returns : tie.Need-returns
 returns c =
-    rw (c .stand .ensures) (begun-long (c .before .before .before .before .before .if1 .taken) (c .before .before .before .put-refusal .ensures))
+    rw (c .stand .ensures) (begun-long (c .before .before .before .before .before .before .empty .ensures) (c .before .before .before .before .before .if1 .taken) (c .before .before .before .put-refusal .ensures))
 
 returns-2 : tie.Need-returns-2
 returns-2 c = rw (c .stand2 .ensures) (begun (c .before .before .empty .ensures) (c .before .if1 .left))

@@ -6,7 +6,7 @@ use lib.ListN.{length}
 use borrow.Author.Tests.{leb-true}
 use Rattle.rules.proofs.Tables.{and-true}
 use Rattle.report.proofs.PutLaws.{put-length, then}
-use Rattle.interpreter.proofs.AdvanceLaws.{Filling, filling-none, none-filled, room-left, filling-more, filled-up, filled}
+use Rattle.interpreter.proofs.AdvanceLaws.{Filling, filling-none, none-filled, taken, room-left, filling-more, filled-up, filled}
 use Rattle.interpreter.proofs.course.fill.Statement.{statement}
 use Rattle.interpreter.proofs.course.fill.Tie as tie
 
@@ -35,7 +35,9 @@ returns-2 : tie.Need-returns-2 Inv-loop μ-loop
 returns-2 c = filled-up (c .before .before .before .before .before .before .before .before .loop .inv) (c .before .before .before .before .take-scans .ensures .0) (c .if3 .taken) (c .before .before .before .before .before .before .if2 .taken) (c .before .before .before .before .before .before .before .before .before .if1 .left)
 
 take-line-requires : tie.Need-take-line-requires Inv-loop μ-loop
-take-line-requires c κs = c .before .before .before .before .before .before .take-scans .ensures .1 (c .before .before .if3 .left)
+take-line-requires c κs =
+    let r = c .before .before .before .before .before .before .take-scans .ensures in
+    (r .1 (c .before .before .if3 .left), r .0 .within (taken (c .before .before .before .before .before .before .before .before .before .before .loop .inv) (c .before .before .before .before .before .before .before .before .if2 .taken) .0))
 
 loop-less : tie.Need-loop-less Inv-loop μ-loop
 loop-less c =
@@ -43,7 +45,7 @@ loop-less c =
     let file = c .before .before .before .before .before .before .before .before .before .before .before .before .before .before .before .before .before .before .args .file .now in
     let i : l .here .at ≤ length file = leb-true _ _ (and-true _ _ (c .before .before .before .before .before .before .before .before .before .before .before .before .if2 .taken) .0) in
     let r = c .before .before .before .before .before .before .before .before .before .before .take-scans .ensures .0 in
-    omega (arith, r .onward, c .before .before .before .take-line .ensures .further (r .within i))
+    omega (arith, r .onward, c .before .before .before .take-line .ensures .further)
 
 loop-again : tie.Need-loop-again Inv-loop μ-loop
 loop-again c = filling-more (c .before .before .before .before .before .before .before .before .before .before .before .before .before .before .loop .inv) (c .before .before .before .before .before .before .before .before .before .before .take-scans .ensures .0) (c .before .before .before .before .before .before .if3 .left) (c .before .before .before .take-line .ensures) (c .before .before .before .before .before .before .before .before .before .before .before .before .if2 .taken) (c .before .before .before .before .before .before .before .before .before .before .before .before .before .before .before .if1 .left)
