@@ -1,12 +1,11 @@
--- The constant tables of the commands: each agrees with its rule at every number, by one test that antt computes.
+-- The constant arrays of the commands: each agrees with its rule at every number, by one test that antt computes.
 -- Assumes nothing.
 use mathlib.Core.Path.{_≡_, refl, sym, _∙_}
 use mathlib.Core.Bool.{Bool, true, false, _&&_, false≢true}
 use mathlib.Core.List.{List, [], _∷_}
-use Prim.Native.Nat.{ℕ, zero, suc, _*_, _/_, _^_, _<_, _≤_}
+use Prim.Native.Nat.{ℕ, zero, suc, _<_, _≤_}
 use native.Mathlib.Omega.{arith}
 use lib.Dec.{eqb, lit<}
-use lib.Bits.{bitAnd}
 use lib.ListN.{getD}
 use borrow.Author.Tests.{eqb-true, eqb-false, ne-eqb}
 use Rattle.words.specs.Word.{if_then_else_}
@@ -31,9 +30,9 @@ agree-at f g (suc n) t k h = split (eqb (f n) (g n)) refl t (eqb k n) refl (agre
 past : (c k : ℕ) → 8 ≤ c → k < 8 → eqb c k ≡ false
 past c k h l = ne-eqb c k (λ e. omega arith)
 
-pub direction-at : (c : ℕ) → c < 8 → bitAnd (39316 / 2 ^ (2 * c)) 3 ≡ direction c
+pub direction-at : (c : ℕ) → c < 8 → getD (0 ∷ 1 ∷ 1 ∷ 2 ∷ 1 ∷ 2 ∷ 1 ∷ 2 ∷ []) c 0 ≡ direction c
 unfolding direction if_then_else_
-direction-at = agree-at (λ c. bitAnd (39316 / 2 ^ (2 * c)) 3) direction 8 refl
+direction-at = agree-at (λ c. getD (0 ∷ 1 ∷ 1 ∷ 2 ∷ 1 ∷ 2 ∷ 1 ∷ 2 ∷ []) c 0) direction 8 refl
 
 pub direction-past : (c : ℕ) → 8 ≤ c → direction c ≡ 0
 unfolding direction if_then_else_

@@ -4,21 +4,15 @@ ghost use Rattle.rules.specs.Record.{direction, isOn, isOff, isMU, isKO, inputB
 use rules::Status;
 use words::has_risen;
 
-// Directions of the commands 0 to 7, 1 off or 2 on: 0, 1, 1, 2, 1, 2, 1, 2, packed two bits a command, that of command c from bit 2c up.
-// A shift and a mask read it; an array would be copied to the stack at each use.
-const DIRECTIONS: u32 = 39316;
+// Direction, 1 off or 2 on, and input bit; no word has a bit 32.
+const DIRECTIONS: [u32; 8] = [0, 1, 1, 2, 1, 2, 1, 2];
 
-// Input bits; no word has a bit 32.
 const INPUT_BITS: [u32; 8] = [32, 0, 8, 7, 3, 2, 13, 12];
 
 pub fn direction_of(c: u32) -> u32
     ensures { λ r. ⌜ r ≡ direction c ⌝ }
 {
-    if c < 8 {
-        (DIRECTIONS >> (2 * c)) & 3
-    } else {
-        0
-    }
+    if c < 8 { DIRECTIONS[c as usize] } else { 0 }
 }
 
 pub fn input_bit(c: u32) -> u32
