@@ -1,15 +1,17 @@
 -- The constant arrays of the commands: each agrees with its rule at every number, by one test that antt computes.
 -- Assumes nothing.
-use mathlib.Core.Path.{_≡_, refl, sym, _∙_}
+use mathlib.Core.Path.{_≡_, refl, sym, ap, _∙_}
 use mathlib.Core.Bool.{Bool, true, false, _&&_, false≢true}
 use mathlib.Core.List.{List, [], _∷_}
-use Prim.Native.Nat.{ℕ, zero, suc, _<_, _≤_}
+use Prim.Native.Nat.{ℕ, zero, suc, _+_, _-_, _<_, _≤_}
 use native.Mathlib.Omega.{arith}
 use lib.Dec.{eqb, lit<}
-use lib.ListN.{getD}
+use lib.ListN.{length, getD, drop}
+use lib.Seq.{drop-cons}
 use borrow.Author.Tests.{eqb-true, eqb-false, ne-eqb}
 use Rattle.words.specs.Word.{if_then_else_}
-use Rattle.rules.specs.Record.{direction, inputBit}
+use Rattle.rules.specs.Record.{commands, direction, inputBit}
+use Rattle.rules.specs.Steps.{firstOf}
 
 -- f and g are equal at each number below n
 abbrev agree : (ℕ → ℕ) → (ℕ → ℕ) → ℕ → Bool
@@ -47,3 +49,24 @@ pub input-past : (c : ℕ) → 8 ≤ c → inputBit c ≡ 32
 unfolding inputBit if_then_else_
 input-past c h =
     simp (past c 1 h (lit< tt), past c 2 h (lit< tt), past c 3 h (lit< tt), past c 4 h (lit< tt), past c 5 h (lit< tt), past c 6 h (lit< tt), past c 7 h (lit< tt))
+
+-- the commands from c on
+next-command : (j : ℕ) → j < 7 → getD commands j 0 ≡ j + 1
+unfolding commands
+next-command = agree-at (λ j. getD commands j 0) (λ j. j + 1) 7 refl
+
+seven : length commands ≡ 7
+unfolding commands
+seven = refl
+
+pub first-from : (f : ℕ → Bool) (c : ℕ) → 1 ≤ c → c < 8 → firstOf f (drop (c - 1) commands) ≡ (if f c then c else firstOf f (drop c commands))
+unfolding firstOf
+first-from f c h l =
+    let e : c - 1 + 1 ≡ c = omega arith in
+    let e₁ : suc (c - 1) ≡ c = omega arith in
+    let d : drop (c - 1) commands ≡ c ∷ drop c commands = rw (drop-cons commands (c - 1) 0 (omega (arith, seven)), next-command (c - 1) (omega arith), e, e₁) refl in
+    ap (firstOf f) d
+
+pub first-none : (f : ℕ → Bool) → firstOf f (drop 7 commands) ≡ 0
+unfolding firstOf commands
+first-none f = refl

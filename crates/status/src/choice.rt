@@ -88,20 +88,25 @@ pub fn is_admitted(s: Settings, v: Status, word: u32, c: u32) -> bool
 pub fn is_candidate(s: Settings, v: Status, word: u32, c: u32) -> bool
     ensures { λ r. ⌜ r ≡ candidate s v word c ⌝ }
 {
-    is_risen(v, word, c) & !is_acknowledging(s, v, word, c) & is_admitted(s, v, word, c)
+    // few have risen
+    if is_risen(v, word, c) {
+        return !is_acknowledging(s, v, word, c) & is_admitted(s, v, word, c);
+    }
+    false
 }
 
 // The strongest candidate, or 0.
 pub fn choice(s: Settings, v: Status, word: u32) -> u32
     ensures { λ r. ⌜ r ≡ chosen s v word ⌝ }
 {
-    let c7 = choose(is_candidate(s, v, word, 7), 7, 0);
-    let c6 = choose(is_candidate(s, v, word, 6), 6, c7);
-    let c5 = choose(is_candidate(s, v, word, 5), 5, c6);
-    let c4 = choose(is_candidate(s, v, word, 4), 4, c5);
-    let c3 = choose(is_candidate(s, v, word, 3), 3, c4);
-    let c2 = choose(is_candidate(s, v, word, 2), 2, c3);
-    choose(is_candidate(s, v, word, 1), 1, c2)
+    let mut c: u32 = 1;
+    while c < 8 {
+        if is_candidate(s, v, word, c) {
+            return c;
+        }
+        c += 1;
+    }
+    0
 }
 
 // Whether the chosen command is issued at a position, with none under way.
