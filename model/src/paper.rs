@@ -129,6 +129,7 @@ pub fn more_sheets() -> Vec<Sheet> {
     use Mark::Last;
     let long_line = format!("S,{}\n", "1".repeat(79));
     let line_of_80 = format!("S,{}\n", "1".repeat(78));
+    let ten_minutes = "S,10000\n".repeat(61);
     vec![
         sheet("settings at their limits", &["M,1,65535,31,600000,600000\n"], whole("")),
         sheet("OPS_1 65,536", &["M,1,65536,31,600000,600000\n"], whole("E,1,4\n")),
@@ -160,6 +161,12 @@ pub fn more_sheets() -> Vec<Sheet> {
             "the choice comes first",
             &[MOTOR, "I,1,16\nS,100\nI,1,8208\nS,100\nI,1,400\nS,100\n"],
             whole("R,1,1,2,2,0,0,0,0\nR,2,1,2,2,6,0,2,0\nR,3,1,2,2,6,0,2,0\n"),
+        ),
+        // Sums that grow where nothing runs would be out of range by then.
+        sheet(
+            "a held output has no sum",
+            &["M,1,193,0,500,0\nI,1,4128\nS,100\n", &ten_minutes],
+            Last("R,62,1,2,1,0,0,1,8192"),
         ),
         // "Dropping a held output when overdue".
         sheet(

@@ -677,7 +677,11 @@ fn long_times(dice: &mut Dice) -> Vec<u8> {
     for _ in 0..dice.within(1, 3) {
         let [ops_1, ops_2, _, _] = settings(dice);
         let mut long = || dice.pick(&[65_535, 65_536, 131_071, 599_999, 600_000, 600_000]);
-        writer.motor([ops_1 | 64, ops_2, long(), long()]);
+        let (wait, pulse) = (long(), long());
+        // A held output has no sum that could grow, however long it stays.
+        let held = dice.percent(30);
+        let option = if held && dice.percent(50) { 0 } else { 64 };
+        writer.motor([ops_1 & !64 | option, ops_2, wait, if held && option == 64 { 0 } else { pulse }]);
     }
     for place in 0..writer.bench.motors.len() {
         let word = dice.pick(&[
@@ -691,8 +695,8 @@ fn long_times(dice: &mut Dice) -> Vec<u8> {
     writer.line("S,1".to_string());
     for _ in 0..75 {
         let m = dice.pick(&writer.bench.motors);
-        let left = if dice.percent(50) { m.wait - m.sum } else { m.pulse - m.pulse_sum };
-        let period = if left > 10_000 { 10_000 } else { dice.pick(&[left, left, left - 1, 1]) };
+        let left = if dice.percent(50) { m.wait - m.sum } else { m.pulse.saturating_sub(m.pulse_sum) };
+        let period = if left > 10_000 { 10_000 } else { dice.pick(&[left, left, left.saturating_sub(1), 1]) };
         writer.line(format!("S,{}", period.clamp(1, 10_000)));
         if dice.percent(3) {
             writer.round(dice, 85, 10_000);
