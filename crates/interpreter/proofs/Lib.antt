@@ -8,3 +8,4 @@ pub mod Sheet
 pub mod Pieces
 pub mod Beginning
 pub mod Shape
+pub mod Followed

@@ -134,7 +134,7 @@ accepts t (r ∷ rs) = go (eqb (refusalFor t r) 0) refl (accepts (changed t r) r
     go false e a = no-more
 
 -- M is accepted before the first scan only
-motor-first : (held scans number : ℕ) (s : Settings) → motorRefusal held scans number s ≡ 0 → scans ≡ 0
+pub motor-first : (held scans number : ℕ) (s : Settings) → motorRefusal held scans number s ≡ 0 → scans ≡ 0
 unfolding motorRefusal
 motor-first held scans number s h =
     let a = if-zero (not (settingsInRange s)) 4 _ (lit< tt) h in
