@@ -1,12 +1,12 @@
 -- A scan taken motor by motor, each printed as it is scanned: how that comes to the scan of the table. Assumes nothing.
 use Prim.Native.Nat.{ℕ, suc, _+_, _^_, _<_, _≤_, min}
 use mathlib.Core.Path.{_≡_, refl, sym, ap, _∙_}
-use mathlib.Core.Bool.{Bool, true, false, not, _&&_, _||_, false≢true}
+use mathlib.Core.Bool.{Bool, true, false, false≢true}
 use mathlib.Core.List.{List, [], _∷_}
 use native.Mathlib.Omega.{arith}
 use native.Mathlib.Numerals.{add-one}
 use lib.Dec.{leb}
-use lib.ListN.{length, getD, set, take, length-take, length-set}
+use lib.ListN.{length, getD, set, take, length-set}
 use lib.Seq.{getD-take, getD-set-same, take-set-le, length-take-le}
 use borrow.Author.Tests.{leb-true, eq-eqb, le-ltb}
 use Rattle.words.specs.Word.{if_then_else_}
@@ -18,7 +18,7 @@ use Rattle.rules.specs.Resting.{rests, restedStatus}
 use Rattle.rules.specs.Refusals.{mostMotors, mostWord, inRange, wordOk, periodOk, allOk, misfit, oneRefusal, oneAfter, stepAll, tableRefusal, tableAfter, partRefusal, partAfter}
 use Rattle.rules.proofs.Range.{accepted as one-fits, steppable}
 use Rattle.rules.proofs.Resting.{resting}
-use Rattle.rules.proofs.Tables.{and-true, one-accepted, allOk-at, allOk-suc, one-accepts, Accepted, accepted, none-stepped, not-yet, one-more, length-stepAll, part-stepped, part-front}
+use Rattle.rules.proofs.Tables.{one-accepted, allOk-at, one-accepts, Accepted, accepted, none-stepped, not-yet, one-more, length-stepAll, part-stepped, part-front}
 use types.Run.{OneOf, miss}
 use denote.Enum.Declared.{tagOf}
 use Rattle.sheet.proofs.Request.{the-type}
@@ -38,7 +38,7 @@ use Rattle.interpreter.specs.declared.Sitting.{Sitting}
 use Rattle.interpreter.specs.declared.Advanced.{Advanced}
 use Rattle.interpreter.specs.declared.inputs.Inputs.{Inputs}
 use Rattle.sheet.specs.Grammar.{nextAt}
-use Rattle.interpreter.proofs.ActLaws.{take-used}
+use Rattle.interpreter.proofs.ActLaws.{take-used, scan-refusal}
 use Rattle.interpreter.proofs.PrintLaws.{no-rows, rows-more}
 use Rattle.interpreter.proofs.Kept.{after-in-range}
 use Rattle.interpreter.proofs.AdvanceLaws.{standing, scans-more}
@@ -71,34 +71,6 @@ module _ (ms : List Motor) (i : ℕ) (m : Motor) (word period : ℕ) (ok : oneRe
 
   pub set-scanned : {n : Motor} → n ≡ oneAfter m word period → set ms i n ≡ set ms i (step m word period)
   set-scanned f = ap (set ms i) (f ∙ one-accepted m word period ok)
-
--- ---- records and words tested one after another
-
-abbrev pub InRange : List Motor → List ℕ → ℕ → Bool
-InRange motors words n = allOk inRange (take n motors) && allOk wordOk (take n words)
-
-module _ (motors : List Motor) (words : List ℕ) where
-  pub none-tested : InRange motors words 0 ≡ true
-  unfolding allOk
-  none-tested = refl
-
-  module _ (i : ℕ) (d : Motor) (l : i < length motors) (m : i < length words) where
-    pub one-tested : InRange motors words i ≡ true → (inRange (getD motors i d) && wordOk (getD words i 0)) ≡ true → InRange motors words (i + 1) ≡ true
-    one-tested e f =
-        let a = and-true (allOk inRange (take i motors)) (allOk wordOk (take i words)) e in
-        let b = and-true (inRange (getD motors i d)) (wordOk (getD words i 0)) f in
-        rw (add-one i, allOk-suc inRange motors i d l, allOk-suc wordOk words i 0 m, a .0, a .1, b .0, b .1) refl
-
-    pub one-out : {n : ℕ} → i < n → (inRange (getD motors i d) && wordOk (getD words i 0)) ≡ false → InRange motors words n ≡ false
-    one-out {n} h f = go (InRange motors words n) refl
-      where
-        go : (b : Bool) → InRange motors words n ≡ b → b ≡ false
-        go false e = refl
-        go true e =
-            let a = and-true (allOk inRange (take n motors)) (allOk wordOk (take n words)) e in
-            let x : inRange (getD motors i d) ≡ true = sym (ap inRange (getD-take n motors i d h)) ∙ allOk-at inRange (take n motors) i d (a .0) (omega (arith, length-take n motors)) in
-            let y : wordOk (getD words i 0) ≡ true = sym (ap wordOk (getD-take n words i 0 h)) ∙ allOk-at wordOk (take n words) i 0 (a .1) (omega (arith, length-take n words)) in
-            absurd (false≢true (sym f ∙ rw (x, y) refl))
 
 -- ---- the motors in use
 
@@ -168,18 +140,31 @@ module _ {motors₀ : List Motor} {words : List ℕ} {period scans : ℕ} {out�
 
 -- ---- a bench of which a scan is accepted
 
+one-right : periodOk 1 ≡ true
+unfolding periodOk
+one-right = refl
+
 module _ (b : Bench) (is : length (b .motors) ≡ 32) (js : length (b .words) ≡ 32) where
   pub accepting : (period : ℕ) → refusalFor (viewOf b) (S period) ≡ 0
       → Accepted (take (min (b .count) mostMotors) (b .motors)) (take (min (b .count) mostMotors) (b .words)) period
   unfolding refusalFor scanRefusal
   accepting period h = rw (← take-used (b .count) (b .motors) is, ← take-used (b .count) (b .words) js) (accepted (take (b .count) (b .motors)) (take (b .count) (b .words)) period h)
 
-  -- not one whose records or words are out of range
-  pub unready : (period : ℕ) → InRange (b .motors) (b .words) (min (b .count) mostMotors) ≡ false
-      → refusalFor (viewOf b) (S period) ≡ 0 → ⊥
-  unready period e h = let a = accepting period h in false≢true (sym e ∙ rw (a .records, a .words) refl)
+  few-held : min (b .count) mostMotors ≤ mostMotors
+  few-held = omega arith
 
-  -- nor with a period out of range
+  -- where one of period 1 is, records and words are in range
+  pub ready-if : partRefusal (b .motors) (min (b .count) mostMotors) (b .words) 1 ≡ 0
+      → (allOk inRange (take (min (b .count) mostMotors) (b .motors)) ≡ true) × (allOk wordOk (take (min (b .count) mostMotors) (b .words)) ≡ true)
+  ready-if h = let a = accepting 1 (sym (scan-refusal b is js 1) ∙ h) in (a .records, a .words)
+
+  -- and where it is not, none is
+  pub unready : (period : ℕ) → (partRefusal (b .motors) (min (b .count) mostMotors) (b .words) 1 ≡ 0 → ⊥) → refusalFor (viewOf b) (S period) ≡ 0 → ⊥
+  unready period n h =
+      let a = accepting period h in
+      n (all-due (b .motors) (b .words) (min (b .count) mostMotors) few-held is js (a .records) (a .words) 1 one-right)
+
+  -- none is with a period out of range
   pub untimely : (period : ℕ) → periodOk period ≡ false → refusalFor (viewOf b) (S period) ≡ 0 → ⊥
   untimely period e h = false≢true (sym e ∙ accepting period h .period)
 

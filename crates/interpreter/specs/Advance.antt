@@ -47,6 +47,12 @@ mostPut = 2880
 abbrev pub NoScan : List ℕ → Sitting → Type 0
 NoScan file s = (period next : ℕ) → nextAt file (s .at) ≡ Taken (S period) next → refusalFor (viewOf (s .bench)) (S period) ≡ 0 → ⊥
 
+-- It is an S line, and is refused.
+pub record RefusedScan (file : List ℕ) (s : Sitting) (period : ℕ) : Type 0 where
+  pub next : ℕ
+  pub here : nextAt file (s .at) ≡ Taken (S period) next
+  pub refused : refusalFor (viewOf (s .bench)) (S period) ≡ 0 → ⊥
+
 -- One line, or the end of the file: what it prints is put.
 pub record Advance (file : List ℕ) (s : Sitting) (out : List ℕ) (to : ℕ) (after : List ℕ) (r : Advanced) : Type 0 where
   pub piece : List ℕ

@@ -107,6 +107,15 @@ fn set_word(b: Bench, number: u32, word: u32) -> Acted
     Acted { refusal, bench: b }
 }
 
+// The refusal of S, of a scan that is not made.
+pub fn scan_refusal(b: Bench, period: u32) -> u32
+    ensures { λ r. ⌜ r ≡ refusalFor (viewOf b) (S period) ⌝ }
+{
+    let motors = b.motors;
+    let words = b.words;
+    table::refusal_array(motors, in_use(b.count), words, period)
+}
+
 // S: the table's scan.
 fn scan(b: Bench, period: u32) -> Acted
     ensures { λ r. ⌜ (r .refusal ≡ refusalFor (viewOf b) (S period)) × (viewOf (r .bench) ≡ stateAfter (viewOf b) (S period)) ⌝ }

@@ -4,12 +4,13 @@ ghost use Prim.Native.Nat.{_≤_};
 ghost use lib.ListN.{length};
 ghost use Rattle.sheet.specs.Grammar.{nextAt};
 ghost use Rattle.sheet.specs.declared.Next.the-variants.{Taken};
-ghost use Rattle.interpreter.specs.Advance.{NoScan, Begin, Advance, Fill};
+ghost use Rattle.interpreter.specs.Advance.{NoScan, RefusedScan, Begin, Advance, Fill};
 use crate::Advanced;
 use crate::Sitting;
 use crate::acts::act;
 use crate::acts::empty;
 use crate::acts::next_number;
+use crate::acts::scan_refusal;
 use crate::scans::stand;
 use crate::scans::take_scans;
 use report::put_refusal;
@@ -33,6 +34,17 @@ pub fn begin(file: &[u8], out: &mut [u8], to: usize) -> Advanced
         return stand(bench, file.len() + 1, 1, next);
     }
     stand(bench, 0, 1, to)
+}
+
+// An S line that is refused: its refusal is put from `to` on, and it is the last line.
+fn refuse_scan(file: &[u8], s: Sitting, period: u32, out: &mut [u8], to: usize) -> Advanced
+    requires { ⌜ RefusedScan (now file) s period ⌝ }
+    ensures { λ r. ⌜ Advance (now (file .entry)) s (now (out .entry)) to (now (out .exit)) r ⌝ }
+{
+    let bench = s.bench;
+    let line = s.line;
+    let n = put_refusal(out, to, line, scan_refusal(bench, period));
+    stand(bench, file.len() + 1, line, n)
 }
 
 // The line of a request, up to `next`, that is no accepted scan: a refusal is put from `to` on, and nothing else. A refused line
@@ -66,7 +78,10 @@ fn take_line(file: &[u8], s: Sitting, out: &mut [u8], to: usize) -> Advanced
     ensures { λ r. ⌜ Advance (now (file .entry)) s (now (out .entry)) to (now (out .exit)) r ⌝ }
 {
     match next_request(file, s.at) {
-        Next::Taken(request, next) => take_request(file, s, request, next, out, to),
+        Next::Taken(request, next) => match request {
+            Request::Scan { period } => refuse_scan(file, s, period, out, to),
+            _ => take_request(file, s, request, next, out, to),
+        },
         Next::Done => {
             let bench = s.bench;
             stand(bench, file.len() + 1, s.line, to)

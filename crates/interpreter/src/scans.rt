@@ -1,10 +1,6 @@
 // Runs of I and S lines, which touch the words, the motors and the count of scans, each in a local of its own: a bench is dear
 // to copy.
 ghost use mathlib.Core.Path.{_≡_};
-ghost use mathlib.Core.Bool.{_&&_};
-ghost use Prim.Native.Nat.{_≤_};
-ghost use lib.ListN.{take};
-ghost use Rattle.rules.specs.Refusals.{mostMotors, allOk, inRange, wordOk};
 ghost use Rattle.interpreter.specs.Print.{motorRow};
 ghost use Rattle.interpreter.specs.Inputs.{FoundScan, Ready, Room, Scans, Over};
 use crate::Advanced;
@@ -19,7 +15,6 @@ use rules::Motor;
 use sheet::Next;
 use sheet::Request;
 use sheet::next_request;
-use table::MOST_MOTORS;
 
 // An S line whose period is one of a scan, with the place of the next line; or any other line.
 pub enum NextScan {
@@ -64,22 +59,6 @@ fn row(scan: u32, number: u32, m: Motor) -> Row
         output: m.output.state,
         flags: m.status.flags,
     }
-}
-
-// Whether every record and word in use is in its range, so that a scan can be refused for its period alone.
-fn are_scannable(motors: [Motor; MOST_MOTORS], words: [u32; MOST_MOTORS], held: usize) -> bool
-    requires { ⌜ held ≤ mostMotors ⌝ }
-    ensures { λ r. ⌜ r ≡ (allOk inRange (take held motors) && allOk wordOk (take held words)) ⌝ }
-{
-    let mut i: usize = 0;
-    while i < held {
-        let m = motors[i];
-        if !(motor::is_in_range(m) & motor::is_word_ok(words[i])) {
-            return false;
-        }
-        i += 1;
-    }
-    true
 }
 
 // The I and S lines from a sitting on, up to the first line that is refused or of another kind, and no further than the place
@@ -145,7 +124,7 @@ fn scan_lines(file: &[u8], s: Sitting, out: &mut [u8], to: usize, last: usize) -
     stand(b, at, line, to)
 }
 
-// The same from any sitting: one that no scan fits is left as it is.
+// The same from any sitting. One of which a scan would be refused for more than its period is left as it is.
 pub fn take_scans(file: &[u8], s: Sitting, out: &mut [u8], to: usize, last: usize) -> Advanced
     requires { ⌜ Room (now out) to last ⌝ }
     ensures { λ r. ⌜ Scans (now (file .entry)) s (now (out .entry)) to last (now (out .exit)) r × Over (now (file .entry)) last r ⌝ }
@@ -153,7 +132,7 @@ pub fn take_scans(file: &[u8], s: Sitting, out: &mut [u8], to: usize, last: usiz
     let bench = s.bench;
     let motors = bench.motors;
     let words = bench.words;
-    if are_scannable(motors, words, in_use(bench.count)) {
+    if table::refusal_array(motors, in_use(bench.count), words, 1) == 0 {
         return scan_lines(file, s, out, to, last);
     }
     Advanced { sitting: s, to }

@@ -4,15 +4,16 @@ use mathlib.Core.Path.{_≡_, refl, sym, _∙_, ap}
 use Prim.Native.Nat.{ℕ, zero, suc, _<_, _≤_, _^_, _+_}
 use native.Mathlib.Nat.{not-suc-le-zero, le-of-suc-le-suc}
 use native.Mathlib.Numerals.{add-one}
+use native.Mathlib.Omega.{arith}
 use mathlib.Core.Bool.{Bool, true, false, not, _&&_}
 use mathlib.Core.List.{List, [], _∷_}
 use lib.Dec.{eqb, lit<}
 use lib.ListN.{length, getD, set, take}
-use lib.Seq.{take-all}
-use borrow.Author.Tests.{eqb-true, not-false}
+use lib.Seq.{take-all, getD-take, length-take-le}
+use borrow.Author.Tests.{eqb-true, not-false, eq-eqb, lt-ltb, le-ltb}
 use Rattle.words.specs.Word.{if_then_else_}
 use Rattle.rules.specs.Steps.{step}
-use Rattle.rules.specs.Refusals.{misfit, inRange, periodOk, wordOk, allOk, oneAfter, tableRefusal, stepAll, tableAfter}
+use Rattle.rules.specs.Refusals.{mostMotors, misfit, inRange, periodOk, wordOk, allOk, oneAfter, tableRefusal, stepAll, tableAfter, partRefusal}
 use Rattle.rules.proofs.Tables.{or-false, allOk-suc, accepted, each-accepted, one-accepted, none-stepped, not-yet, one-more, length-stepAll}
 use Rattle.rules.specs.declared.Motor.{Motor}
 use Rattle.table.specs.Pass.{firstCode, nextCode, toTest, toStep}
@@ -150,3 +151,31 @@ module _ (ms : List Motor) (ws : List ℕ) (p : ℕ) where
   pub table-length : (j : ℕ) → length (tableAt j) ≡ N
   unfolding tableAt
   table-length j = length-by (eqb R 0) j
+
+-- ---- the first pass over the first n records of an array
+module _ (ms : List Motor) (ws : List ℕ) (n p : ℕ) (few : n ≤ mostMotors) (l : n ≤ length ms) (k : n ≤ length ws) where
+  records : length (take n ms) ≡ n
+  records = length-take-le n ms l
+
+  words : length (take n ws) ≡ n
+  words = length-take-le n ws k
+
+  all-tested : toTest (length (take n ms)) (length (take n ws)) ≡ n
+  unfolding toTest misfit if_then_else_
+  all-tested = rw (records, words, eq-eqb n n refl, le-ltb mostMotors n few) refl
+
+  pub part-start : firstCode n n p ≡ codeAt (take n ms) (take n ws) p 0
+  part-start = rw (records, words) at (code-start (take n ms) (take n ws) p)
+
+  pub part-turn : (d : Motor) (i : ℕ) → i < n
+      → nextCode (codeAt (take n ms) (take n ws) p i) (getD ms i d) (getD ws i 0) ≡ codeAt (take n ms) (take n ws) p (i + 1)
+  part-turn d i h = rw (getD-take n ms i d h, getD-take n ws i 0 h) at (code-turn (take n ms) (take n ws) p d i (omega (arith, all-tested)))
+
+  pub part-end : codeAt (take n ms) (take n ws) p n ≡ partRefusal ms n ws p
+  unfolding partRefusal if_then_else_
+  part-end = rw (le-ltb mostMotors n few) (code-end (take n ms) (take n ws) p n (omega (arith, all-tested)))
+
+-- more records than a table may have
+pub part-too-many : (ms : List Motor) (ws : List ℕ) (n p : ℕ) → mostMotors < n → partRefusal ms n ws p ≡ 1
+unfolding partRefusal if_then_else_
+part-too-many ms ws n p h = rw (lt-ltb mostMotors n h) refl

@@ -89,6 +89,28 @@ pub fn scan(table: &mut [Motor], words: &[u32], period: u32) -> u32
     code
 }
 
+// The refusal of a scan of the first `count` records of an array, which is not made.
+pub fn refusal_array(
+    records: [Motor; MOST_MOTORS],
+    count: usize,
+    words: [u32; MOST_MOTORS],
+    period: u32,
+) -> u32
+    ensures { λ r. ⌜ r ≡ partRefusal records count words period ⌝ }
+{
+    if MOST_MOTORS < count {
+        return 1;
+    }
+    let mut code = first_code(count, count, period);
+    let mut i: usize = 0;
+    while i < count {
+        let m = records[i];
+        code = next_code(code, m, words[i]);
+        i += 1;
+    }
+    code
+}
+
 pub struct ScannedTable {
     pub refusal: u32,
     pub records: [Motor; MOST_MOTORS],

@@ -54,12 +54,39 @@ fn scans_only() -> Vec<u8> {
     file
 }
 
+/// Input words for one motor after another, as many as fit, and no scan.
+fn words_only(motors: usize) -> Vec<u8> {
+    let mut file: Vec<u8> =
+        (1..=motors).flat_map(|k| format!("M,{k},193,0,500,300\n").into_bytes()).collect();
+    for turn in 0.. {
+        let line = format!("I,{},{}\n", turn % motors + 1, 4096 + turn % 64);
+        if file.len() + line.len() > 65_536 {
+            break;
+        }
+        file.extend_from_slice(line.as_bytes());
+    }
+    file
+}
+
+/// Each kind of file for 32 motors and, where a line of it costs the same
+/// whatever the number of motors, for one.
 fn cases() -> Vec<Case> {
     vec![
         Case { title: "scans only, 32 motors", file: scans_only() },
         Case { title: "many commands, 32 motors", file: story::rich(5, 32) },
         Case { title: "many commands, 1 motor", file: story::rich(5, 1) },
+        Case { title: "words only, 32 motors", file: words_only(32) },
+        Case { title: "words only, 1 motor", file: words_only(1) },
     ]
+}
+
+/// What the program takes for a line read or printed, by the number of motors.
+fn by_motors(times: &[f64]) {
+    println!("\nprocessor time without start, a line read or printed, 1 motor against 32:");
+    for (kind, pair) in ["many commands", "words only"].iter().zip(times[1..].chunks(2)) {
+        let (many, one) = (pair[0] * 1e9, pair[1] * 1e9);
+        println!("    {kind:<14} {one:.1} ns against {many:.1} ns, ratio {:.3}", one / many);
+    }
 }
 
 /// Clock time of one run, its print read from a pipe.
@@ -121,7 +148,8 @@ impl Bench {
         path
     }
 
-    fn measure(&self, case: &Case) -> Result<(), String> {
+    /// The program's processor time without start, in seconds a line read or printed.
+    fn measure(&self, case: &Case) -> Result<f64, String> {
         let input = self.put("input", &case.file);
         let nothing = self.put("nothing", b"");
         let mut print = Vec::new();
@@ -162,7 +190,7 @@ impl Bench {
                 "    {name:<8} {:>9.3} ms, lowest {:>9.3} ms, {:>8.1} ns a printed line, {:>8.1} ns a line of the file",
                 middle * 1e3,
                 low * 1e3,
-                middle * 1e9 / print_lines as f64,
+                middle * 1e9 / print_lines.max(1) as f64,
                 middle * 1e9 / file_lines as f64
             );
         }
@@ -204,13 +232,13 @@ impl Bench {
                 median(&user[side]) * 1e3,
                 median(&both[side]) * 1e3,
                 median(&start[side]) * 1e3,
-                median(&net[side]) * 1e9 / print_lines as f64
+                median(&net[side]) * 1e9 / print_lines.max(1) as f64
             );
         }
         println!("    program/plain, user              {}", ratio_text(&user[0], &user[1]));
         println!("    program/plain, user and system   {}", ratio_text(&both[0], &both[1]));
         println!("    program/plain, without start     {}", ratio_text(&net[0], &net[1]));
-        Ok(())
+        Ok(median(&net[0]) / (file_lines + print_lines) as f64)
     }
 }
 
@@ -261,10 +289,13 @@ fn main() -> ExitCode {
             return ExitCode::from(2);
         }
     };
-    let result = cases().iter().try_for_each(|case| bench.measure(case));
+    let result: Result<Vec<f64>, String> = cases().iter().map(|case| bench.measure(case)).collect();
     let _ = fs::remove_dir_all(&bench.folder);
     match result {
-        Ok(()) => ExitCode::SUCCESS,
+        Ok(times) => {
+            by_motors(&times);
+            ExitCode::SUCCESS
+        }
         Err(message) => {
             eprintln!("speed: {message}");
             ExitCode::from(1)

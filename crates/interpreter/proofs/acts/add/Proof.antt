@@ -9,11 +9,6 @@ use lib.ListN.{length, length-map}
 use Rattle.interpreter.proofs.ActLaws.{accepted, refused, motor-room, add-refusal, add-state}
 use Rattle.interpreter.proofs.acts.add.Statement.{statement}
 use Rattle.interpreter.proofs.acts.add.Tie as tie
-use Rattle.interpreter.proofs.acts.add.Reads as reads
-use Rattle.interpreter.proofs.acts.add.Lts as lts
-use Rattle.book.proofs.start.Reads as start-reads
-use Rattle.interpreter.proofs.acts.in_use.Reads as in-use-reads
-use Rattle.interpreter.proofs.acts.motor_refusal.Reads as motor-refusal-reads
 
 motors-is : (c : tie.Start) → length (c .args .b .motors) ≡ 32
 motors-is c = simp length-map at (c .good .0 .1 .1 .0 .1 .0 .1)
@@ -29,15 +24,6 @@ code c =
 
 room : (c : tie.Then1) → c .before .before .in-use .result < mostMotors
 room c = motor-room _ _ _ _ (sym (c .before .motor-refusal .ensures) ∙ c .if1 .taken)
-
-in-use-requires : tie.Need-in-use-requires
-in-use-requires c κs = search needs
-
-motor-refusal-requires : tie.Need-motor-refusal-requires
-motor-refusal-requires c κs = search needs
-
-start-requires : tie.Need-start-requires
-start-requires c κs = search needs
 
 mul-fresh : tie.Need-mul-fresh
 unfolding mostMotors
@@ -71,16 +57,4 @@ returns-2 : tie.Need-returns-2
 returns-2 c = (code (c .before), sym (refused _ _ (λ q. c .if1 .left (code (c .before) ∙ q))))
 
 pub add-spec : {M : Type 1} → statement M
-add-spec =
-    tie.close
-    (tie.spec
-    in-use-requires
-    motor-refusal-requires
-    start-requires
-    mul-fresh
-    element-set-from-fresh
-    mul-n
-    element-write-n
-    add-n
-    returns
-    returns-2)
+add-spec = tie.close (tie.spec (λ c κs. search needs) (λ c κs. search needs) (λ c κs. search needs) mul-fresh element-set-from-fresh mul-n element-write-n add-n returns returns-2)

@@ -2,8 +2,6 @@ use native.Mathlib.Omega.{arith}
 use Rattle.rules.specs.Refusals.{mostMotors}
 use Rattle.interpreter.proofs.acts.in_use.Statement.{statement}
 use Rattle.interpreter.proofs.acts.in_use.Tie as tie
-use Rattle.interpreter.proofs.acts.in_use.Reads as reads
-use Rattle.interpreter.proofs.acts.in_use.Lts as lts
 
 returns : tie.Need-returns
 unfolding mostMotors

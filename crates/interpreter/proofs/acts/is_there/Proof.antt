@@ -1,8 +1,6 @@
 use Rattle.interpreter.specs.State.{isThere}
 use Rattle.interpreter.proofs.acts.is_there.Statement.{statement}
 use Rattle.interpreter.proofs.acts.is_there.Tie as tie
-use Rattle.interpreter.proofs.acts.is_there.Reads as reads
-use Rattle.interpreter.proofs.acts.is_there.Lts as lts
 
 returns : tie.Need-returns
 unfolding isThere

@@ -3,11 +3,6 @@ use native.Mathlib.Omega.{arith}
 use Rattle.interpreter.specs.State.{nextNumber}
 use Rattle.interpreter.proofs.acts.next_number.Statement.{statement}
 use Rattle.interpreter.proofs.acts.next_number.Tie as tie
-use Rattle.interpreter.proofs.acts.next_number.Reads as reads
-use Rattle.interpreter.proofs.acts.next_number.Lts as lts
-
-add-result : tie.Need-add-result
-add-result c = search needs
 
 returns : tie.Need-returns
 unfolding nextNumber
@@ -18,4 +13,4 @@ unfolding nextNumber
 returns-2 c = omega arith
 
 pub next-number-spec : {M : Type 1} → statement M
-next-number-spec = tie.close (tie.spec add-result returns returns-2)
+next-number-spec = tie.close (tie.spec (λ c. search needs) returns returns-2)

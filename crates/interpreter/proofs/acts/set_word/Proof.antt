@@ -9,10 +9,6 @@ use Rattle.interpreter.proofs.ActLaws.{accepted, refused, input-there, 
 use Rattle.sheet.specs.declared.Request.the-variants.{Input as I}
 use Rattle.interpreter.proofs.acts.set_word.Statement.{statement}
 use Rattle.interpreter.proofs.acts.set_word.Tie as tie
-use Rattle.interpreter.proofs.acts.set_word.Reads as reads
-use Rattle.interpreter.proofs.acts.set_word.Lts as lts
-use Rattle.interpreter.proofs.acts.in_use.Reads as in-use-reads
-use Rattle.interpreter.proofs.acts.input_refusal.Reads as input-refusal-reads
 
 motors-is : (c : tie.Start) → length (c .args .b .motors) ≡ 32
 motors-is c = simp length-map at (c .good .0 .1 .1 .0 .1 .0 .1)
@@ -31,17 +27,8 @@ there c =
     let h = input-there _ _ _ (sym (c .before .input-refusal .ensures) ∙ c .if1 .taken) in
     (h .0, rw (c .before .before .in-use .ensures) at (h .1))
 
-in-use-requires : tie.Need-in-use-requires
-in-use-requires c κs = search needs
-
-input-refusal-requires : tie.Need-input-refusal-requires
-input-refusal-requires c κs = search needs
-
 sub-at : tie.Need-sub-at
 sub-at c = omega (arith, there c)
-
-mul-n : tie.Need-mul-n
-mul-n c = search needs
 
 element-write-n : tie.Need-element-write-n
 unfolding mostMotors
@@ -59,13 +46,4 @@ returns-2 : tie.Need-returns-2
 returns-2 c = (code (c .before), sym (refused _ _ (λ q. c .if1 .left (code (c .before) ∙ q))))
 
 pub set-word-spec : {M : Type 1} → statement M
-set-word-spec =
-    tie.close
-    (tie.spec
-    in-use-requires
-    input-refusal-requires
-    sub-at
-    mul-n
-    element-write-n
-    returns
-    returns-2)
+set-word-spec = tie.close (tie.spec (λ c κs. search needs) (λ c κs. search needs) sub-at (λ c. search needs) element-write-n returns returns-2)
