@@ -16,7 +16,7 @@ use Rattle.rules.specs.Record.{withStatus}
 use Rattle.rules.specs.Steps.{step}
 use Rattle.rules.specs.Resting.{rests, restedStatus}
 use Rattle.rules.specs.Refusals.{mostMotors, mostWord, inRange, wordOk, periodOk, allOk, misfit, oneRefusal, oneAfter, stepAll, tableRefusal, tableAfter, partRefusal, partAfter}
-use Rattle.rules.proofs.Range.{accepted as one-fits, steppable}
+use Rattle.rules.proofs.Range.{one-in-limits, steppable}
 use Rattle.rules.proofs.Resting.{resting}
 use Rattle.rules.proofs.Tables.{one-accepted, allOk-at, one-accepts, Accepted, accepted, none-stepped, not-yet, one-more, length-stepAll, part-stepped, part-front}
 use types.Run.{OneOf, miss}
@@ -60,7 +60,7 @@ pub rested : (m : Motor) (word period : ℕ) → oneRefusal m word period ≡ 0 
     → withStatus m (restedStatus (m .settings) (m .status) word) ≡ step m word period
 unfolding wordOk
 rested m word period h e =
-    let a = one-fits m word period h in
+    let a = one-in-limits m word period h in
     sym (resting m word period (omega (arith, leb-true word 131071 (a .input))) (omega (arith, steppable a .previous)) e)
 
 -- a list with the motor after its scan, at rest or not

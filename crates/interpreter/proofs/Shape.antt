@@ -7,18 +7,16 @@ use native.Mathlib.Omega.{arith}
 use lib.Dec.{eqb, leb, ltb, lit<}
 use native.Mathlib.Nat.{add-zero, zero-add, zero-mul, suc-mul}
 use native.Mathlib.Numerals.{add-one}
-use lib.ListN.{length, length-append, length-map}
-use borrow.Author.Tests.{eqb-true, eqb-false, ltb-false, ne-eqb}
+use lib.ListN.{length, length-append}
+use borrow.Author.Tests.{eqb-true, eqb-false, ltb-false}
 use Rattle.words.specs.Word.{if_then_else_}
 use Rattle.rules.specs.declared.Motor.{Motor}
 use Rattle.rules.specs.declared.Settings.{Settings}
 use Rattle.rules.specs.Record.{fresh}
 use Rattle.rules.specs.Refusals.{settingsInRange, tableAfter}
 use Rattle.rules.proofs.Tables.{if-zero, length-after}
-use Rattle.sheet.specs.Split.{LF, split, joinFirst}
-use Rattle.sheet.specs.Lines.{textsOf, linesOf}
-use Rattle.sheet.specs.Grammar.{textRequest, requestsOf}
-use Rattle.sheet.proofs.SplitLaws.{parts-pos}
+use Rattle.sheet.specs.Grammar.{requestsOf}
+use Rattle.sheet.proofs.MoreLines.{few-requests}
 use Rattle.sheet.specs.declared.Request.{Request}
 use Rattle.sheet.specs.declared.Request.the-variants.{Motor as M, Input as I, Scan as S, Refused}
 use Rattle.report.specs.declared.Row.{Row}
@@ -185,26 +183,6 @@ line-exact k [] l = omega arith
 line-exact k (r ∷ rs) l =
     let e : min (k + 1) 4294967295 ≡ k + 1 = omega arith in
     rw e (line-exact (k + 1) rs (omega arith) ∙ (omega arith))
-
-few-texts : (x : ℕ) (ps : List (List ℕ)) (n : ℕ) → 0 < length ps → length (textsOf ps) ≤ n → length (textsOf (joinFirst x ps)) ≤ suc n
-unfolding textsOf joinFirst if_then_else_
-few-texts x [] n h l = absurd (omega arith)
-few-texts x (p ∷ []) n h l = rw (ne-eqb (suc (length p)) 0 (λ e. omega arith)) (omega arith)
-few-texts x (p ∷ q ∷ ps) n h l = omega arith
-
-few-lines : (file : List ℕ) → length (linesOf file) ≤ length file
-unfolding linesOf split textsOf if_then_else_
-few-lines [] = omega arith
-few-lines (x ∷ xs) = go (eqb x LF) (split LF xs) (parts-pos LF xs) (few-lines xs)
-  where
-    go : (b : Bool) (ps : List (List ℕ)) → 0 < length ps → length (textsOf ps) ≤ length xs → length (textsOf (if b then [] ∷ ps else joinFirst x ps)) ≤ suc (length xs)
-    go true [] h l = absurd (omega arith)
-    go true (p ∷ ps) h l = omega arith
-    go false ps h l = few-texts x ps (length xs) h l
-
-few-requests : (file : List ℕ) → length (requestsOf file) ≤ length file
-unfolding requestsOf
-few-requests file = rw (length-map (linesOf file) textRequest) (few-lines file)
 
 -- After n accepted scans there are n times the motors of rows, and the E line has the number of the line after the accepted ones.
 pub record Numbered (file : List ℕ) (rs : List Request) : Type 0 where

@@ -94,14 +94,15 @@ fn scan_lines(file: &[u8], s: Sitting, out: &mut [u8], to: usize, last: usize) -
         scans = next_number(scans);
         let mut i: usize = 0;
         while i < held {
+            // a motor at rest is read field by field: `m` is handed on nowhere, and so never copied
             let word = words[i];
             let m = motors[i];
-            let set = m.settings;
+            let settings = m.settings;
             let v = m.status;
             let o = m.output;
-            if motor::is_resting(set, v, o, word) {
+            if motor::is_resting(settings, v, o, word) {
                 let mut rested = motors[i];
-                rested.status = motor::rest(set, v, word);
+                rested.status = motor::rest(settings, v, word);
                 motors[i] = rested;
             } else {
                 let scanned = motor::scan(motors[i], word, period);

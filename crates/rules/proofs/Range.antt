@@ -328,24 +328,24 @@ in-range m f =
 -- ---- what a caller of the steps needs
 
 -- a scan is accepted exactly where record, period and word are in limits
-pub record Accepted (m : Motor) (word period : ℕ) : Type 0 where
+pub record OneAccepted (m : Motor) (word period : ℕ) : Type 0 where
   pub range : inRange m ≡ true
   pub time : periodOk period ≡ true
   pub input : wordOk word ≡ true
 
-pub accepted : (m : Motor) (word period : ℕ) → oneRefusal m word period ≡ 0 → Accepted m word period
+pub one-in-limits : (m : Motor) (word period : ℕ) → oneRefusal m word period ≡ 0 → OneAccepted m word period
 unfolding oneRefusal if_then_else_
-accepted m word period = go (inRange m) refl (periodOk period) refl (wordOk word) refl
+one-in-limits m word period = go (inRange m) refl (periodOk period) refl (wordOk word) refl
   where
     go : (a : Bool) → inRange m ≡ a → (b : Bool) → periodOk period ≡ b → (c : Bool) → wordOk word ≡ c
-        → _≡_ {A = ℕ} (if not a then 6 else if not b then 2 else if not c then 3 else 0) 0 → Accepted m word period
+        → _≡_ {A = ℕ} (if not a then 6 else if not b then 2 else if not c then 3 else 0) 0 → OneAccepted m word period
     go true p true q true r h = record { range = p; time = q; input = r }
     go true p true q false r h = absurd (omega arith)
     go true p false q c r h = absurd (omega arith)
     go false p b q c r h = absurd (omega arith)
 
 -- an accepted scan has what its code needs
-pub steppable : {m : Motor} {word period : ℕ} → Accepted m word period → Steppable m period
+pub steppable : {m : Motor} {word period : ℕ} → OneAccepted m word period → Steppable m period
 unfolding periodOk
 steppable {m} {word} {period} a =
     let f = record-fits m (a .range) in
@@ -368,7 +368,7 @@ unfolding oneAfter if_then_else_
 scan-in-range m word period h = go (eqb (oneRefusal m word period) 0) refl
   where
     go : (b : Bool) → eqb (oneRefusal m word period) 0 ≡ b → inRange (if b then step m word period else m) ≡ true
-    go true e = range-kept m word period h (accepted m word period (eqb-true _ _ e) .input)
+    go true e = range-kept m word period h (one-in-limits m word period (eqb-true _ _ e) .input)
     go false e = h
 
 pub fresh-in-range : (s : Settings) → settingsInRange s ≡ true → inRange (fresh s) ≡ true

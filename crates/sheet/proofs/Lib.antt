@@ -4,3 +4,4 @@ pub mod NumberLaws
 pub mod RequestLaws
 pub mod PlaceLaws
 pub mod Vectors
+pub mod MoreLines

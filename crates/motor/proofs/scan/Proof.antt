@@ -2,13 +2,13 @@ use Rattle.rules.specs.Refusals.{oneAfter}
 use Rattle.words.specs.Word.{if_then_else_}
 use mathlib.Core.Path.{_≡_, sym, _∙_}
 use borrow.Author.Tests.{eq-eqb, ne-eqb}
-use Rattle.rules.proofs.Range.{accepted, steppable}
+use Rattle.rules.proofs.Range.{one-in-limits, steppable}
 use borrow.Author.Needs.{needs}
 use Rattle.motor.proofs.scan.Statement.{statement}
 use Rattle.motor.proofs.scan.Tie as tie
 
 step-requires : tie.Need-step-requires
-step-requires c κs = steppable (accepted _ _ _ (sym (c .before .refusal .ensures) ∙ c .if1 .taken))
+step-requires c κs = steppable (one-in-limits _ _ _ (sym (c .before .refusal .ensures) ∙ c .if1 .taken))
 
 returns : tie.Need-returns
 unfolding oneAfter if_then_else_
