@@ -5,7 +5,8 @@ use libc::STDOUT_FILENO;
 // One byte more than a file may have, so that a longer one shows.
 const ROOM_IN: usize = 65537;
 
-const ROOM_OUT: usize = 32768;
+// As much as a pipe holds, so that prints cost few writes.
+const ROOM_OUT: usize = 65536;
 
 // Writes the first n bytes; false where the output is closed.
 fn write_front(out: &[u8], n: usize) -> bool {

@@ -10,8 +10,8 @@ use Rattle.sheet.specs.Split.{LF, comma, between}
 use Rattle.sheet.specs.Lines.{longest}
 use Rattle.sheet.specs.Number.{isDigit, numberOf}
 use Rattle.sheet.specs.declared.Number.the-variants.{Value}
-use Rattle.sheet.specs.declared.quick.Reading.{Reading}
-use Rattle.sheet.specs.declared.quick.Reading.the-variants.{Number, Nothing}
+use Rattle.sheet.specs.declared.quick.Figure.{Figure}
+use Rattle.sheet.specs.declared.quick.Figure.the-variants.{Number, Nothing}
 
 -- A place has a byte, or a digit
 unfoldable pub isAt : List ℕ → ℕ → ℕ → Bool
@@ -34,6 +34,6 @@ pub record NumberAt (file : List ℕ) (at value end : ℕ) : Type 0 where
   pub says : numberOf (between at end file) ≡ Value value
 
 -- What a reading tells; nothing read tells nothing
-unfoldable pub Read : List ℕ → ℕ → Reading → Type 0
+unfoldable pub Read : List ℕ → ℕ → Figure → Type 0
 Read file at (Number value end) = NumberAt file at value end
 Read file at Nothing = Unit {0}

@@ -17,7 +17,7 @@ use crate::requests::SCAN;
 use crate::requests::request_at;
 
 // What is read at a place where a number may stand.
-pub enum Reading {
+pub enum Figure {
     // A number, and the place after its last digit.
     Number(u32, usize),
     Nothing,
@@ -46,25 +46,25 @@ fn is_digit_at(file: &[u8], at: usize) -> bool
 
 // The number at a place of a file. A 0 is read alone, so that no leading zero is taken: a digit after it stands where the
 // caller looks for the end of the field.
-fn number_at(file: &[u8], at: usize) -> Reading
+fn number_at(file: &[u8], at: usize) -> Figure
     ensures { λ r. ⌜ Read (now (file .entry)) at r ⌝ }
 {
     if is_at(file, at, b'0') {
-        return Reading::Number(0, at + 1);
+        return Figure::Number(0, at + 1);
     }
     let mut value: u64 = 0;
     let mut i = at;
     while is_digit_at(file, i) {
         value = value * 10 + (wide(file[i]) - 48);
         if LARGEST < value {
-            return Reading::Nothing;
+            return Figure::Nothing;
         }
         i += 1;
     }
     if value == 0 {
-        return Reading::Nothing;
+        return Figure::Nothing;
     }
-    Reading::Number(value as u32, i)
+    Figure::Number(value as u32, i)
 }
 
 // Whether a field of this letter alone stands at a place of a file, and a comma after it.
@@ -90,7 +90,7 @@ fn scan_at(file: &[u8], at: usize) -> Next
     requires { ⌜ beginsWith (now file) at letter-S ≡ true ⌝ }
     ensures { λ r. ⌜ r ≡ nextAt (now (file .entry)) at ⌝ }
 {
-    let Reading::Number(period, end) = number_at(file, at + 2) else {
+    let Figure::Number(period, end) = number_at(file, at + 2) else {
         return request_at(file, at);
     };
     if ends_line(file, at, end) {
@@ -104,13 +104,13 @@ fn input_at(file: &[u8], at: usize) -> Next
     requires { ⌜ beginsWith (now file) at letter-I ≡ true ⌝ }
     ensures { λ r. ⌜ r ≡ nextAt (now (file .entry)) at ⌝ }
 {
-    let Reading::Number(number, parting) = number_at(file, at + 2) else {
+    let Figure::Number(number, parting) = number_at(file, at + 2) else {
         return request_at(file, at);
     };
     if !is_at(file, parting, COMMA) {
         return request_at(file, at);
     }
-    let Reading::Number(word, end) = number_at(file, parting + 1) else {
+    let Figure::Number(word, end) = number_at(file, parting + 1) else {
         return request_at(file, at);
     };
     if ends_line(file, at, end) {

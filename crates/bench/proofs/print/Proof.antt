@@ -14,7 +14,7 @@ use Rattle.interpreter.proofs.begin.Reads as begin-reads
 use Rattle.interpreter.proofs.fill.Reads as fill-reads
 
 abbrev Inv-loop : tie.InvT-loop
-Inv-loop file out₀ first going₀ s₀ out going s = length out ≡ 32768
+Inv-loop file out₀ first going₀ s₀ out going s = length out ≡ 65536
 
 abbrev μ-loop : tie.MeasureT-loop
 μ-loop file out₀ first going₀ s₀ out going s = suc (length file) - s .at
