@@ -162,6 +162,7 @@ impl Bench {
         let copy = self.put("print", &print);
         let file_lines = case.file.iter().filter(|byte| **byte == b'\n').count();
         let print_lines = print.iter().filter(|byte| **byte == b'\n').count();
+        let lines = (file_lines + print_lines) as f64;
         println!(
             "\n{}: {} bytes and {file_lines} lines in, {} bytes and {print_lines} lines out",
             case.title,
@@ -187,11 +188,10 @@ impl Bench {
         for (name, times) in ["program", "plain", "cat"].iter().zip(&times) {
             let [low, _, middle, _, _] = spread(times);
             println!(
-                "    {name:<8} {:>9.3} ms, lowest {:>9.3} ms, {:>8.1} ns a printed line, {:>8.1} ns a line of the file",
+                "    {name:<8} {:>9.3} ms, lowest {:>9.3} ms, {:>8.1} ns a line read or printed",
                 middle * 1e3,
                 low * 1e3,
-                middle * 1e9 / print_lines.max(1) as f64,
-                middle * 1e9 / file_lines as f64
+                middle * 1e9 / lines
             );
         }
         println!("    program/plain {}", ratio_text(&times[0], &times[1]));
@@ -228,17 +228,17 @@ impl Bench {
         println!("  processor time a run, median of {batches} batches of {runs} runs each:");
         for (side, name) in ["program", "plain"].iter().enumerate() {
             println!(
-                "    {name:<8} user {:>8.3} ms, user and system {:>8.3} ms, start alone {:>7.3} ms, {:>7.1} ns a printed line without start",
+                "    {name:<8} user {:>8.3} ms, user and system {:>8.3} ms, start alone {:>7.3} ms, {:>7.1} ns a line without start",
                 median(&user[side]) * 1e3,
                 median(&both[side]) * 1e3,
                 median(&start[side]) * 1e3,
-                median(&net[side]) * 1e9 / print_lines.max(1) as f64
+                median(&net[side]) * 1e9 / lines
             );
         }
         println!("    program/plain, user              {}", ratio_text(&user[0], &user[1]));
         println!("    program/plain, user and system   {}", ratio_text(&both[0], &both[1]));
         println!("    program/plain, without start     {}", ratio_text(&net[0], &net[1]));
-        Ok(median(&net[0]) / (file_lines + print_lines) as f64)
+        Ok(median(&net[0]) / lines)
     }
 }
 
