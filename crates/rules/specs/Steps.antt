@@ -1,7 +1,8 @@
 -- One scan of one motor: the paper's "One scan, in this order", a definition a step (letters and signs: see Record.antt). `statusN` and
 -- `flagsN` are the status and the flags that step N leaves.
 -- Steps 1, 2, 5 to 8 and 10 go by the settings, the status and the input word alone, and so does what steps 4 and 9 do to the status: the
--- book of commands shares them. The switches are read once (`reading`); the steps that go by them are handed what they read. It has no sums and no output, so it hands step 4 its own answer to whether the time is up.
+-- book of commands shares them. It has no sums and no output, so it hands step 4 its own answer to whether the time is up.
+-- The switches are read once (`reading`); steps 2, 4 and 5 are handed what they read.
 use Prim.Native.Nat.{ℕ, _+_}
 use mathlib.Core.Bool.{Bool, true, false, not, _&&_, _||_}
 use mathlib.Core.List.{List, [], _∷_}
