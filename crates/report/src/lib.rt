@@ -54,10 +54,6 @@ fn put_field(out: &mut [u8], at: usize, n: u32) -> usize
     ensures { λ r. ⌜ Put (now (out .entry)) at (afterComma n) (now (out .exit)) r ⌝ }
 {
     let next = put_byte(out, at, COMMA);
-    // most fields have one digit, which needs no call
-    if n < 10 {
-        return put_byte(out, next, 48 + n as u8);
-    }
     put_number(out, next, n)
 }
 
