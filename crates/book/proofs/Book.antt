@@ -1,17 +1,17 @@
 -- The record has what its book has: one invariant, kept by every scan. Assumes nothing.
-use Prim.Native.Nat.{ℕ, zero, suc, _+_, _≤_, _<_}
+use Prim.Native.Nat.{ℕ, suc, _+_, _≤_}
 use mathlib.Core.Path.{_≡_, refl, sym, ap, _∙_}
-use mathlib.Core.Bool.{Bool, true, false, not, _&&_, _||_}
+use mathlib.Core.Bool.{Bool, true, false}
 use native.Mathlib.Omega.{arith}
-use lib.Dec.{eqb, leb, ltb}
+use lib.Dec.{eqb, leb}
 use borrow.Author.Tests.{lt-ltb, le-ltb}
 use Rattle.words.specs.Word.{if_then_else_}
 use Rattle.rules.specs.declared.Settings.{Settings}
 use Rattle.rules.specs.declared.Status.{Status}
 use Rattle.rules.specs.declared.Reading.{Reading}
 use Rattle.rules.specs.declared.Motor.{Motor}
-use Rattle.rules.specs.Record.{no-end, end-confirmed, end-displaced, end-overdue, idle, freshStatus, fresh, withMode, withPositions, withCommand, withFlags, withPrevious, withStatus}
-use Rattle.rules.specs.Steps.{status1, reading, status2, confirmed, overdue, ended, end4, flags4, status4, status5, status6, status7, status9, issueStatus, status10, issued, step3, timeUp, step4, issue, step9, status1to6, status7to10, steps1to5, steps6to10, step}
+use Rattle.rules.specs.Record.{end-displaced, idle, fresh, withMode, withPositions, withCommand, withFlags, withPrevious, withStatus}
+use Rattle.rules.specs.Steps.{status1, reading, status2, overdue, ended, end4, flags4, status4, status5, status6, status7, status9, issueStatus, status10, issued, step3, timeUp, step4, issue, step9, status1to6, status7to10, steps1to5, steps6to10, step}
 use Rattle.rules.specs.Scans.{Input}
 use Rattle.book.specs.Log.{Log, none, _▸_, count}
 use Rattle.book.specs.History.{recordOf}

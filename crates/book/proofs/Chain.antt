@@ -1,6 +1,6 @@
 -- Chains are short, and over in time. Assumes nothing.
-use Prim.Native.Nat.{ℕ, zero, suc, _+_, _*_, _≤_, _<_, max, pred}
-use mathlib.Core.Path.{_≡_, refl, sym, ap, _∙_}
+use Prim.Native.Nat.{ℕ, suc, _+_, _*_, _≤_, _<_, pred}
+use mathlib.Core.Path.{_≡_, refl, sym, ap}
 use mathlib.Core.Logic.{_≢_, _⊎_, inl, inr}
 use mathlib.Core.Bool.{Bool, true, false}
 use native.Mathlib.Nat.{mul-le-mul-right}
@@ -12,7 +12,7 @@ use Rattle.rules.specs.Record.{no-end, end-confirmed, end-displaced, end-overdu
 use Rattle.rules.specs.Steps.{reading, confirms, displaces}
 use Rattle.rules.specs.Scans.{Input}
 use Rattle.book.specs.Log.{Log, none, _▸_, _⧺_, count}
-use Rattle.book.specs.Book.{since, isUp, bookOf}
+use Rattle.book.specs.Book.{since, isUp}
 use Rattle.book.specs.Claim.{UnderWay, Issued, chosenIn, fate, Ends, Chain, first, waits, displaced, total, longest, mostInChain, bound, Over}
 use Rattle.book.proofs.Book.{book-held, none-since, one-since}
 use Rattle.book.proofs.Ends.{command-lt, turn-of, goes-on, ends-of}

@@ -1,23 +1,23 @@
 -- What one scan does to the command under way, and so how it ends. Assumes nothing.
-use Prim.Native.Nat.{ℕ, zero, suc, _+_, _≤_, _<_}
-use mathlib.Core.Path.{_≡_, refl, sym, ap, _∙_}
+use Prim.Native.Nat.{ℕ, _+_, _≤_, _<_}
+use mathlib.Core.Path.{_≡_, refl, sym, _∙_}
 use mathlib.Core.Logic.{_↔_, _≢_}
 use mathlib.Core.Bool.{Bool, true, false, not, _&&_, _||_, false≢true}
 use native.Mathlib.Omega.{arith}
 use native.Mathlib.Decide.{ℕ-discrete}
-use lib.Dec.{eqb, leb, ltb, lit<, lit≤}
+use lib.Dec.{eqb, ltb, lit<}
 use borrow.Author.Tests.{eqb-true, eqb-false, ne-eqb, ltb-true}
-use Rattle.words.specs.Word.{if_then_else_, isSet, withBit, withoutBit, withoutBits}
+use Rattle.words.specs.Word.{if_then_else_, isSet, withoutBit}
 use Rattle.words.proofs.Laws.{if-lt, set-has, set-keeps, clear-keeps}
 use Rattle.rules.specs.declared.Settings.{Settings}
 use Rattle.rules.specs.declared.Status.{Status}
 use Rattle.rules.specs.declared.Reading.{Reading}
-use Rattle.rules.specs.Record.{no-command, no-end, end-confirmed, end-displaced, end-overdue, overdueFlag, idle, freshStatus, withMode, withPositions, withCommand, withFlags, withPrevious}
+use Rattle.rules.specs.Record.{no-command, no-end, end-displaced, end-overdue, overdueFlag, idle, freshStatus, withMode, withPositions, withCommand, withFlags, withPrevious}
 use Rattle.rules.specs.Steps.{reading, confirms, confirmed, overdue, ended, end4, flags4, status1, status2, status4, putFlag, status5, status6, flags7, status7, chosen, displaces, starts, issues, issued, flags9, issueStatus, status9, status10, status1to6, status7to10}
 use Rattle.rules.specs.Scans.{Input}
 use Rattle.rules.proofs.Range.{issued-fits}
 use Rattle.book.specs.Log.{Log, none, _▸_, _⧺_, count}
-use Rattle.book.specs.Book.{since, isUp, book1to6, bookScan, bookOf}
+use Rattle.book.specs.Book.{isUp, book1to6, bookScan, bookOf}
 use Rattle.book.specs.Claim.{UnderWay, Issued, chosenIn, fate, Quiet, Ends}
 use Rattle.book.proofs.Book.{book-held, endsIn, endIn, command-after, end-after}
 

@@ -1,10 +1,10 @@
 -- The record over a list of entries is the record over its history. Assumes nothing.
-use Prim.Native.Nat.{ℕ, suc, _<_}
+use Prim.Native.Nat.{_<_}
 use mathlib.Core.Path.{_≡_, refl, sym, ap, _∙_}
-use mathlib.Core.Bool.{Bool, true, false, not, _&&_, false≢true}
+use mathlib.Core.Bool.{Bool, true, false}
 use mathlib.Core.List.{List, [], _∷_, _++_}
 use native.Mathlib.Omega.{arith}
-use lib.Dec.{eqb, leb}
+use lib.Dec.{eqb}
 use lib.ListN.{length, getD, length-append}
 use borrow.Author.Tests.{eqb-true, eqb-false}
 use Rattle.words.specs.Word.{if_then_else_}
@@ -13,7 +13,6 @@ use Rattle.rules.specs.declared.Motor.{Motor}
 use Rattle.rules.specs.Steps.{step}
 use Rattle.rules.specs.Refusals.{tableRefusal, tableAfter, oneAfter}
 use Rattle.rules.proofs.Tables.{element, table-refused}
-use Rattle.rules.specs.Scans.{Input}
 use Rattle.book.specs.Log.{Log, none, _▸_}
 use Rattle.book.specs.History.{Entry, table, single, otherTable, otherSingle, resultOf, after, inputOf, takesIn, counts, recordAfter, history, recordOf}
 

@@ -15,7 +15,7 @@ use Rattle.rules.specs.Record.{fresh}
 use Rattle.rules.specs.Refusals.{oneAfter, tableAfter}
 use Rattle.rules.proofs.Tables.{length-after}
 use Rattle.book.specs.Log.{Log, none, _▸_}
-use Rattle.book.specs.History.{Entry, single, otherSingle, after, recordAfter}
+use Rattle.book.specs.History.{single, otherSingle, after, recordAfter}
 use Rattle.book.specs.Run.{Order, all, one, nobody, scanned, tableRun, entryAt, entriesAt, Followed}
 use Rattle.book.proofs.Theorem.{demand3}
 

@@ -11,7 +11,7 @@ use Rattle.rules.specs.Scans.{Input}
 use Rattle.rules.specs.Opened.{opened}
 use Rattle.book.specs.Log.{Log, none, _▸_, _⧺_, count}
 use Rattle.book.specs.Book.{since, isUp, book1to6, bookScan, bookOf}
-use Rattle.book.specs.Claim.{chosenIn, fate, Chain, first, waits, displaced, total, longest}
+use Rattle.book.specs.Claim.{chosenIn, fate, Chain, first, displaced, total, longest}
 
 unfoldable pub bookOpened : Type 0
 unfolding opened _⧺_ count since isUp book1to6 bookScan bookOf chosenIn fate total longest

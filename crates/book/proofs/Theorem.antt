@@ -2,11 +2,10 @@
 use mathlib.Core.Path.{_≡_, ap, _∙_}
 use mathlib.Core.Bool.{false}
 use Rattle.rules.specs.declared.Settings.{Settings}
-use Rattle.rules.specs.declared.Status.{Status}
 use Rattle.rules.specs.declared.Motor.{Motor}
 use Rattle.rules.specs.Record.{idle}
 use Rattle.book.specs.Log.{Log}
-use Rattle.book.specs.History.{Entry, recordAfter, history, recordOf}
+use Rattle.book.specs.History.{Entry, recordAfter, history}
 use Rattle.book.specs.Book.{since, bookOf}
 use Rattle.book.specs.Claim.{Demand3}
 use Rattle.book.proofs.Record.{record-is, taken-is, refused-is, independent-is}

@@ -1,7 +1,7 @@
 -- Blocks that the claim shuts out: one that ends each command in its first scan, one that says overdue before W, and one with an invented
 -- sum. Each differs from the book, or from the time since the issue, which demand 3 says the record has. Assumes nothing.
-use Prim.Native.Nat.{ℕ, _+_, _≤_, _<_}
-use mathlib.Core.Path.{_≡_, refl, sym, ap, _∙_}
+use Prim.Native.Nat.{ℕ, _≤_, _<_}
+use mathlib.Core.Path.{_≡_, refl, sym, _∙_}
 use mathlib.Core.Logic.{_≢_}
 use mathlib.Core.Bool.{Bool, true, false}
 use native.Mathlib.Omega.{arith}
@@ -11,10 +11,10 @@ use Rattle.rules.specs.declared.Settings.{Settings}
 use Rattle.rules.specs.Record.{end-overdue, idle}
 use Rattle.rules.specs.Steps.{reading, confirms, displaces}
 use Rattle.rules.specs.Scans.{Input}
-use Rattle.book.specs.Log.{Log, none, _▸_, count}
+use Rattle.book.specs.Log.{Log, _▸_, count}
 use Rattle.book.specs.History.{Entry, recordAfter, history}
 use Rattle.book.specs.Book.{since, isUp, bookOf}
-use Rattle.book.specs.Claim.{UnderWay, Issued, chosenIn, fate, Ends, Demand3}
+use Rattle.book.specs.Claim.{UnderWay, Issued, chosenIn, fate, Demand3}
 use Rattle.book.proofs.Book.{none-since, one-since}
 use Rattle.book.proofs.Ends.{goes-on, ends-of}
 

@@ -1,23 +1,24 @@
 -- What the requests do to the lists that a bench's arrays are. Assumes nothing.
 use Prim.Native.Nat.{ℕ, _+_, _-_, _<_, _≤_, min}
-use mathlib.Core.Path.{_≡_, refl, sym, ap, _∙_}
-use mathlib.Core.Bool.{Bool, true, false, not, _&&_}
+use mathlib.Core.Path.{_≡_, sym, ap, _∙_}
+use mathlib.Core.Bool.{not, _&&_}
 use mathlib.Core.List.{List, [], _∷_, _++_}
 use native.Mathlib.Omega.{arith}
 use native.Mathlib.Numerals.{add-one}
 use native.Mathlib.Decide.{decLe}
-use lib.Dec.{eqb, leb, ltb, lit<}
-use lib.ListN.{length, take, drop, set, length-take}
+use lib.Dec.{leb, ltb, lit<}
+use lib.ListN.{length, take, set, length-take}
 use lib.Seq.{take-all, take-suc-set, take-set-lt}
 use borrow.Author.Tests.{eq-eqb, ne-eqb, leb-true, leb-false, le-ltb, not-false}
 use Rattle.words.specs.Word.{if_then_else_}
 use Rattle.rules.specs.declared.Motor.{Motor}
 use Rattle.rules.specs.declared.Settings.{Settings}
 use Rattle.rules.specs.Record.{fresh}
-use Rattle.rules.specs.Refusals.{mostMotors, settingsInRange, wordOk, tableRefusal, tableAfter, partRefusal, partAfter}
-use Rattle.rules.proofs.Tables.{if-zero, and-true, part-front, length-part}
+use Rattle.rules.specs.Refusals.{mostMotors, settingsInRange, partRefusal, partAfter}
+use Rattle.words.proofs.Laws.{and-true}
+use Rattle.rules.proofs.Tables.{if-zero, part-front, length-part}
 use Rattle.sheet.specs.declared.Request.{Request}
-use Rattle.sheet.specs.declared.Request.the-variants.{Motor as M, Input as I, Scan as S, Refused}
+use Rattle.sheet.specs.declared.Request.the-variants.{Motor as M, Input as I, Scan as S}
 use Rattle.interpreter.specs.State.{State, nextNumber, motorRefusal, withMotor, isThere, inputRefusal, withWords, withWord, scanRefusal, withScan, refusalFor, changed, stateAfter, viewOf}
 use Rattle.interpreter.specs.declared.Bench.{Bench}
 

@@ -2,7 +2,7 @@
 use Prim.Native.Nat.{ℕ, _+_, _-_, _<_, _≤_, min}
 use mathlib.Core.Path.{_≡_, refl, sym, ap, _∙_}
 use mathlib.Core.Bool.{Bool, true, false, _&&_}
-use mathlib.Core.List.{List, [], _∷_, _++_, append-nil, append-assoc}
+use mathlib.Core.List.{List, [], _++_, append-nil}
 use native.Mathlib.Omega.{arith}
 use lib.Dec.{leb}
 use lib.ListN.{length, take, length-append}
@@ -10,17 +10,18 @@ use borrow.Author.Tests.{leb-true, leb-false, lt-ltb, le-ltb}
 use Rattle.words.specs.Word.{if_then_else_}
 use Rattle.rules.specs.Refusals.{mostMotors, partRefusal, partAfter}
 use Rattle.rules.specs.declared.Motor.{Motor}
-use Rattle.rules.proofs.Tables.{and-true, length-part}
+use Rattle.words.proofs.Laws.{and-true}
+use Rattle.rules.proofs.Tables.{length-part}
 use Rattle.sheet.specs.declared.Request.{Request}
 use Rattle.sheet.specs.declared.Request.the-variants.{Motor as M, Input as I, Scan as S, Refused}
 use Rattle.sheet.specs.declared.Next.the-variants.{Taken, Done}
 use Rattle.sheet.specs.Grammar.{nextAt}
-use Rattle.sheet.proofs.RequestLaws.{Step, taken as taken-step}
+use Rattle.sheet.proofs.RequestLaws.{taken as taken-step}
 use Rattle.report.specs.Put.{Put}
 use Rattle.report.specs.Print.{refusalOf}
 use Rattle.report.proofs.PutLaws.{put-none, put-length, then as and-then}
 use Rattle.report.proofs.PrintLaws.{refusal-length}
-use Rattle.interpreter.specs.State.{State, emptyState, nextNumber, withWords, refusalFor, changed, stateAfter, viewOf}
+use Rattle.interpreter.specs.State.{emptyState, nextNumber, withWords, refusalFor, stateAfter, viewOf}
 use Rattle.interpreter.specs.Print.{rowsOf, answerOf, atEnd, tooLong}
 use Rattle.interpreter.specs.Advance.{placeOf, Through, mostPut, NoScan, opening, Begin, Advance, Fill}
 use Rattle.interpreter.specs.Advance.Through.{none, accepted, refused, ended}

@@ -1,7 +1,7 @@
 -- Every motor of a bench that began empty is one that demand 3 follows: it was fresh when its M line added it, and each accepted S line
 -- since is a scan of the whole table with the words that the motors held. Assumes nothing.
 use Prim.Native.Nat.{ℕ, zero, suc, _<_}
-use mathlib.Core.Path.{_≡_, refl, sym, ap, _∙_}
+use mathlib.Core.Path.{_≡_, refl, ap}
 use mathlib.Core.Bool.{Bool, true, false}
 use mathlib.Core.List.{List, [], _∷_, _++_}
 use native.Mathlib.Omega.{arith}

@@ -1,21 +1,21 @@
 -- From an empty bench on, through any requests, the table's scan has nothing to refuse but the period: the order of S is 5, 2.
 -- Assumes nothing.
 use Prim.Native.Nat.{ℕ, zero, suc, _+_, _-_, _<_, _≤_}
-use mathlib.Core.Path.{_≡_, refl, sym, ap, _∙_}
-use mathlib.Core.Bool.{Bool, true, false, not, _&&_, _||_}
+use mathlib.Core.Path.{_≡_, refl, sym, _∙_}
+use mathlib.Core.Bool.{Bool, true, false, not, _&&_}
 use mathlib.Core.List.{List, [], _∷_, _++_}
 use native.Mathlib.Omega.{arith}
-use lib.Dec.{eqb, ltb, lit<}
+use lib.Dec.{eqb, lit<}
 use lib.ListN.{length, set, length-append, length-set}
 use borrow.Author.Tests.{eqb-true, eq-eqb, le-ltb, not-false}
 use Rattle.words.specs.Word.{if_then_else_}
 use Rattle.rules.specs.declared.Motor.{Motor}
 use Rattle.rules.specs.declared.Settings.{Settings}
 use Rattle.rules.specs.Record.{fresh}
-use Rattle.rules.specs.Steps.{step}
 use Rattle.rules.specs.Refusals.{mostMotors, settingsInRange, inRange, periodOk, wordOk, allOk, misfit, tableRefusal, stepAll, tableAfter}
 use Rattle.rules.proofs.Range.{range-kept, fresh-in-range}
-use Rattle.rules.proofs.Tables.{if-zero, and-true, length-after}
+use Rattle.words.proofs.Laws.{and-true}
+use Rattle.rules.proofs.Tables.{if-zero, length-after}
 use Rattle.sheet.specs.declared.Request.{Request}
 use Rattle.sheet.specs.declared.Request.the-variants.{Motor as M, Input as I, Scan as S, Refused}
 use Rattle.interpreter.specs.State.{State, emptyState, motorRefusal, withMotor, isThere, inputRefusal, withWords, withWord, scanRefusal, withScan, refusalFor, changed, stateAfter, statesAfter}

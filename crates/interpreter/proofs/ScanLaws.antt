@@ -1,13 +1,12 @@
 -- A scan taken motor by motor, each printed as it is scanned: how that comes to the scan of the table. Assumes nothing.
-use Prim.Native.Nat.{ℕ, suc, _+_, _^_, _<_, _≤_, min}
+use Prim.Native.Nat.{ℕ, _+_, _<_, _≤_, min}
 use mathlib.Core.Path.{_≡_, refl, sym, ap, _∙_}
 use mathlib.Core.Bool.{Bool, true, false, false≢true}
 use mathlib.Core.List.{List, [], _∷_}
 use native.Mathlib.Omega.{arith}
 use native.Mathlib.Numerals.{add-one}
-use lib.Dec.{leb}
 use lib.ListN.{length, getD, set, take, length-set}
-use lib.Seq.{getD-take, getD-set-same, take-set-le, length-take-le}
+use lib.Seq.{getD-take, take-set-le, length-take-le}
 use borrow.Author.Tests.{leb-true, eq-eqb, le-ltb}
 use Rattle.words.specs.Word.{if_then_else_}
 use Rattle.rules.specs.declared.Motor.{Motor}
@@ -15,7 +14,7 @@ use Rattle.rules.specs.declared.Status.{Status}
 use Rattle.rules.specs.Record.{withStatus}
 use Rattle.rules.specs.Steps.{step}
 use Rattle.rules.specs.Resting.{rests, restedStatus}
-use Rattle.rules.specs.Refusals.{mostMotors, mostWord, inRange, wordOk, periodOk, allOk, misfit, oneRefusal, oneAfter, stepAll, tableRefusal, tableAfter, partRefusal, partAfter}
+use Rattle.rules.specs.Refusals.{mostMotors, inRange, wordOk, periodOk, allOk, misfit, oneRefusal, oneAfter, stepAll, tableRefusal, partRefusal, partAfter}
 use Rattle.rules.proofs.Range.{one-in-limits, steppable}
 use Rattle.rules.proofs.Resting.{resting}
 use Rattle.rules.proofs.Tables.{one-accepted, allOk-at, one-accepts, Accepted, accepted, none-stepped, not-yet, one-more, length-stepAll, part-stepped, part-front}
@@ -42,16 +41,6 @@ use Rattle.interpreter.proofs.ActLaws.{take-used, scan-refusal}
 use Rattle.interpreter.proofs.PrintLaws.{no-rows, rows-more}
 use Rattle.interpreter.proofs.Kept.{after-in-range}
 use Rattle.interpreter.proofs.AdvanceLaws.{standing, scans-more}
-
--- stands for a motor past the end of an array
-abbrev pub zeros : Motor
-zeros =
-    record {
-      settings = record { ops1 = 0; ops2 = 0; w = 0; u = 0 };
-      status = record { mode = 0; sure = 0; position = 0; command = 0; end = 0; flags = 0; previous = 0 };
-      sum = 0;
-      output = record { state = 0; sum = 0 };
-    }
 
 -- ---- one motor
 

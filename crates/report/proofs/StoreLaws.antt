@@ -1,13 +1,14 @@
 -- Laws of storing where there is room: how the room for some bytes is shared out, and what parts a row has. Assumes nothing.
 use Prim.Native.Nat.{ℕ, _+_, _-_, _*_, _/_, _%_, _^_, _<_, _≤_}
-use mathlib.Core.Bool.{Bool, true, false, _&&_, false≢true}
-use mathlib.Core.Path.{_≡_, refl}
+use mathlib.Core.Bool.{true}
+use mathlib.Core.Path.{_≡_}
 use mathlib.Core.List.{List, [], _∷_, _++_, append-assoc}
 use native.Mathlib.Omega.{arith}
 use native.Mathlib.Decide.{decLe}
 use lib.Dec.{ltb, leb}
 use lib.ListN.{length, length-append}
 use borrow.Author.Tests.{ltb-true, le-leb, lt-leb}
+use Rattle.words.proofs.Laws.{and-true}
 use Rattle.sheet.specs.Split.{LF}
 use Rattle.report.specs.Put.{Put}
 use Rattle.report.specs.Print.{decimal, afterComma, afterCommas, lineOf, letter-R, rowOf}
@@ -44,10 +45,6 @@ module _ {o : List ℕ} {at : ℕ} (n : ℕ) (h : 10 ≤ n) (g : n < 2 ^ 32) whe
 
 -- ---- a row
 
-both : (a b : Bool) → (a && b) ≡ true → (a ≡ true) × (b ≡ true)
-both true b h = (refl, h)
-both false b h = absurd (false≢true h)
-
 pub record ShortStates (r : Row) : Type 0 where
   pub mode : r .mode < 10
   pub position : r .position < 10
@@ -58,10 +55,10 @@ pub record ShortStates (r : Row) : Type 0 where
 pub short-states : (r : Row) → shortStates r ≡ true → ShortStates r
 unfolding shortStates
 short-states r h =
-    let four = both _ (ltb (r .output) 10) h in
-    let three = both _ (ltb (r .end) 10) (four .0) in
-    let two = both _ (ltb (r .command) 10) (three .0) in
-    let one = both (ltb (r .mode) 10) (ltb (r .position) 10) (two .0) in
+    let four = and-true _ (ltb (r .output) 10) h in
+    let three = and-true _ (ltb (r .end) 10) (four .0) in
+    let two = and-true _ (ltb (r .command) 10) (three .0) in
+    let one = and-true (ltb (r .mode) 10) (ltb (r .position) 10) (two .0) in
     record {
       mode = ltb-true _ _ (one .0);
       position = ltb-true _ _ (one .1);

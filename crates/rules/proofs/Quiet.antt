@@ -1,16 +1,15 @@
 -- Steps that leave everything as it is, so that code may pass them over: 6 to 9 where no bit of the word has risen, and 3 and 4 where no
 -- command is under way and no pulse is running. Assumes nothing.
-use Prim.Native.Nat.{ℕ, _/_, _%_, _^_, _<_}
-use mathlib.Core.Path.{_≡_, refl, sym, ap, _∙_}
-use mathlib.Core.Bool.{Bool, true, false, not, _&&_, and-false}
+use Prim.Native.Nat.{ℕ, _^_, _<_}
+use mathlib.Core.Path.{_≡_, refl, sym, _∙_}
+use mathlib.Core.Bool.{Bool, true, false, and-false}
 use native.Mathlib.Nat.{zero-div}
-use lib.Dec.{eqb}
-use Rattle.words.specs.Word.{if_then_else_, bitOf, isSet, rose, without}
+use Rattle.words.specs.Word.{if_then_else_, bitOf, isSet, without}
 use Rattle.words.proofs.Laws.{risen-is}
 use Rattle.rules.specs.declared.Settings.{Settings}
 use Rattle.rules.specs.declared.Status.{Status}
 use Rattle.rules.specs.declared.Motor.{Motor}
-use Rattle.rules.specs.Record.{localMode, commands, inputBit, bitRisen, commandRisen, idle, withMode, withPositions, withCommand, withFlags, withStatus}
+use Rattle.rules.specs.Record.{commands, inputBit, bitRisen, commandRisen, idle, withMode, withPositions, withCommand, withFlags, withStatus}
 use Rattle.rules.specs.Steps.{reading, status1, status2, step3, step4, status4, end4, flags4, ended, confirmed, overdue, drops, running, status5, modesRisen, modeChanges, status6, acknowledgesOff, acknowledgesOn, flags7, status7, candidate, firstOf, chosen, starts, displaces, issues, issued, step9, status10, steps1to5, steps6to10, step}
 
 module _ (s : Settings) (v : Status) (word : ℕ) (hw : word < 2 ^ 32) (hp : v .previous < 2 ^ 32) (none : without (v .previous) word ≡ 0) where

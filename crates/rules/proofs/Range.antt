@@ -1,16 +1,16 @@
 -- The range is kept: a scan of a record in range leaves one in range, so a motor that starts fresh with settings in range is never
 -- refused by 6. Assumes nothing.
-use Prim.Native.Nat.{ℕ, zero, suc, _+_, _^_, _≤_, _<_}
-use mathlib.Core.Path.{_≡_, refl, sym, _∙_}
-use mathlib.Core.Bool.{Bool, true, false, not, _&&_, _||_, false≢true}
+use Prim.Native.Nat.{ℕ, suc, _+_, _^_, _≤_, _<_}
+use mathlib.Core.Path.{_≡_, refl}
+use mathlib.Core.Bool.{Bool, true, false, not, _&&_, _||_}
 use mathlib.Core.List.{List, [], _∷_}
 use mathlib.Core.Logic.{_≢_}
 use native.Mathlib.Nat.{lt-of-le-of-lt}
 use native.Mathlib.Omega.{arith}
-use lib.Dec.{eqb, leb, ltb, lit<, lit≤}
-use borrow.Author.Tests.{leb-true, leb-false, le-leb, eqb-true, ne-eqb}
+use lib.Dec.{eqb, leb, lit<, lit≤}
+use borrow.Author.Tests.{leb-true, leb-false, le-leb, eqb-true}
 use Rattle.words.specs.Word.{if_then_else_, withBit, withoutBit, withoutBits}
-use Rattle.words.proofs.Laws.{with-lt, without-le}
+use Rattle.words.proofs.Laws.{with-lt, without-le, and-true}
 use Rattle.rules.specs.declared.Settings.{Settings}
 use Rattle.rules.specs.declared.Status.{Status}
 use Rattle.rules.specs.declared.Output.{Output}
@@ -21,7 +21,6 @@ use Rattle.rules.specs.Record.{OPS₁, commands, idle, ownOutput, overdu
 use Rattle.rules.specs.Steps.{flags1, status1, reading, positionRead, flags2, pretended, status2, running, step3, confirmed, overdue, ended, end4, flags4, status4, timeUp, pulseOver, drops, step4, putFlag, status5, modeAsked, status6, flags7, status7, chosen, firstOf, issued, flags9, issueStatus, raised, withoutOpposite, output9, issue, step9, status10, steps1to5, steps6to10, step}
 use Rattle.rules.specs.Refusals.{settingsInRange, statusInRange, outputInRange, inRange, periodOk, wordOk, oneRefusal, oneAfter}
 use Rattle.rules.specs.Scans.{Input, scans, Steppable}
-use Rattle.rules.proofs.Tables.{and-true}
 
 -- ---- a choice has what both of its arms have
 

@@ -1,15 +1,15 @@
 -- A scan of a motor at rest changes its status alone. Assumes nothing.
 use Prim.Native.Nat.{ℕ, _^_, _<_}
-use mathlib.Core.Path.{_≡_, refl, sym, ap, _∙_}
-use mathlib.Core.Bool.{Bool, true, false, not, _&&_}
+use mathlib.Core.Path.{_≡_, refl, _∙_}
+use mathlib.Core.Bool.{true, not, _&&_}
 use lib.Dec.{eqb}
 use borrow.Author.Tests.{eqb-true, not-true}
-use Rattle.words.specs.Word.{if_then_else_, without}
+use Rattle.words.specs.Word.{without}
 use Rattle.rules.specs.declared.Motor.{Motor}
 use Rattle.rules.specs.Record.{idle, withStatus}
-use Rattle.rules.specs.Steps.{running, step, status1, status2, status5, status10, steps1to5}
+use Rattle.rules.specs.Steps.{running, step}
 use Rattle.rules.specs.Resting.{rests, restedStatus}
-use Rattle.rules.proofs.Tables.{and-true}
+use Rattle.words.proofs.Laws.{and-true}
 use Rattle.rules.proofs.Quiet.{quiet, idle-first}
 
 pub resting : (m : Motor) (word period : ℕ) → word < 2 ^ 32 → m .status .previous < 2 ^ 32 → rests (m .settings) (m .status) (m .output) word ≡ true

@@ -10,15 +10,12 @@ use lib.ListN.{length, getD, set, take, drop, take-append-drop}
 use lib.Seq.{length-take-le, length-front, take-at, drop-at}
 use borrow.Author.Tests.{eqb-true, ltb-false, not-false, eq-eqb, ne-eqb, le-ltb}
 use Rattle.words.specs.Word.{if_then_else_}
+use Rattle.words.proofs.Laws.{and-true}
 use Rattle.rules.specs.Steps.{step}
 use Rattle.rules.specs.Refusals.{inRange, mostMotors, misfit, periodOk, wordOk, allOk, oneRefusal, oneAfter, tableRefusal, stepAll, tableAfter, partRefusal, partAfter}
 use Rattle.rules.specs.declared.Motor.{Motor}
 
 -- ---- tests
-pub and-true : (a b : Bool) → a && b ≡ true → (a ≡ true) × (b ≡ true)
-and-true true b e = (refl, e)
-and-true false b e = (e, cc)
-
 pub and-end : (b : Bool) → b && true ≡ b
 and-end true = refl
 and-end false = refl

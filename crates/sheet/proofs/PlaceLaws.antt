@@ -1,7 +1,7 @@
 -- Laws of bytes and numbers where they stand in a file: a line that is read there gives the request that the grammar says. Assumes nothing.
 use Prim.Native.Nat.{ℕ, suc, _+_, _-_, _*_, _<_, _≤_}
 use mathlib.Core.Path.{_≡_, refl, sym, ap, _∙_}
-use mathlib.Core.Bool.{Bool, true, false, _&&_, false≢true}
+use mathlib.Core.Bool.{Bool, true, false, false≢true}
 use mathlib.Core.List.{List, [], _∷_, _++_, append-assoc}
 use native.Mathlib.Nat.{add-zero}
 use native.Mathlib.Omega.{arith}
@@ -9,6 +9,7 @@ use lib.ListN.{length, drop, getD, length-append, length-take, length-drop, take
 use lib.Seq.{length-take-le, drop-cons, take-suc, drop-drop, take-at, getD-drop, getD-take}
 use lib.Dec.{eqb, leb, ltb}
 use borrow.Author.Tests.{eq-eqb, eqb-true, lt-ltb, ltb-true, leb-true}
+use Rattle.words.proofs.Laws.{and-true}
 use Rattle.words.specs.Word.{if_then_else_}
 use Rattle.sheet.specs.Split.{LF, comma, joined, indexOf, between, fieldOf, fieldCount}
 use Rattle.sheet.specs.Lines.{longest, line, wellSized, textOf, firstLine, lineAt}
@@ -23,16 +24,12 @@ use Rattle.sheet.proofs.SplitLaws.{Free, free-none, free-more, split-jo
 use Rattle.sheet.proofs.LineLaws.{lines-part}
 use Rattle.sheet.proofs.NumberLaws.{spells-number, number-spells}
 
-both : (s t : Bool) → (s && t) ≡ true → (s ≡ true) × (t ≡ true)
-both true t e = (refl, e)
-both false t e = absurd (false≢true e)
-
 -- ---- a byte at a place
 
 pub byte-at : (file : List ℕ) (at b : ℕ) → isAt file at b ≡ true → (at < length file) × (getD file at 0 ≡ b)
 unfolding isAt
 byte-at file at b e =
-    let w = both (ltb at (length file)) (eqb (getD file at 0) b) e in
+    let w = and-true (ltb at (length file)) (eqb (getD file at 0) b) e in
     (ltb-true at (length file) (w .0), eqb-true (getD file at 0) b (w .1))
 
 other-at : (file : List ℕ) (at b : ℕ) → isAt file at b ≡ false → at < length file → getD file at 0 ≡ b → ⊥
@@ -44,7 +41,7 @@ drop-byte file at b e = let w = byte-at file at b e in drop-cons file at 0 (w .0
 
 digit-range : (b : ℕ) → isDigit b ≡ true → (48 ≤ b) × (b ≤ 57)
 unfolding isDigit
-digit-range b e = let w = both (leb 48 b) (leb b 57) e in (leb-true 48 b (w .0), leb-true b 57 (w .1))
+digit-range b e = let w = and-true (leb 48 b) (leb b 57) e in (leb-true 48 b (w .0), leb-true b 57 (w .1))
 
 pub record DigitAt (file : List ℕ) (at : ℕ) : Type 0 where
   pub inside : at < length file
@@ -55,7 +52,7 @@ pub record DigitAt (file : List ℕ) (at : ℕ) : Type 0 where
 pub digit-at : (file : List ℕ) (at : ℕ) → isDigitAt file at ≡ true → DigitAt file at
 unfolding isDigitAt
 digit-at file at e =
-    let w = both (ltb at (length file)) (isDigit (getD file at 0)) e in
+    let w = and-true (ltb at (length file)) (isDigit (getD file at 0)) e in
     let r = digit-range (getD file at 0) (w .1) in
     record { inside = ltb-true at (length file) (w .0); is = w .1; low = r .0; high = r .1 }
 
@@ -65,7 +62,7 @@ digit-at file at e =
 digits-more : (s : List ℕ) (b : ℕ) → allDigits s ≡ true → isDigit b ≡ true → allDigits (s ++ b ∷ []) ≡ true
 unfolding allDigits
 digits-more [] b e f = rw f
-digits-more (x ∷ s) b e f = let w = both (isDigit x) (allDigits s) e in rw (w .0) (digits-more s b (w .1) f)
+digits-more (x ∷ s) b e f = let w = and-true (isDigit x) (allDigits s) e in rw (w .0) (digits-more s b (w .1) f)
 
 value-more : (v : ℕ) (s : List ℕ) (b : ℕ) → valueFrom v (s ++ b ∷ []) ≡ valueFrom v s * 10 + (b - 48)
 unfolding valueFrom
@@ -80,13 +77,13 @@ some-digit (x ∷ s) n = omega arith
 first-digit : (s : List ℕ) → allDigits s ≡ true → 0 < length s → 48 ≤ getD s 0 0
 unfolding allDigits
 first-digit [] e h = absurd (omega arith)
-first-digit (x ∷ s) e h = digit-range x (both (isDigit x) (allDigits s) e .0) .0
+first-digit (x ∷ s) e h = digit-range x (and-true (isDigit x) (allDigits s) e .0) .0
 
 -- a byte that is no digit is not among them
 digits-free : (b : ℕ) (s : List ℕ) → isDigit b ≡ false → allDigits s ≡ true → indexOf b s ≡ length s
 unfolding indexOf allDigits if_then_else_
 digits-free b [] f e = refl
-digits-free b (x ∷ s) f e = let w = both (isDigit x) (allDigits s) e in go (eqb x b) refl (w .0) (digits-free b s f (w .1))
+digits-free b (x ∷ s) f e = let w = and-true (isDigit x) (allDigits s) e in go (eqb x b) refl (w .0) (digits-free b s f (w .1))
   where
     go : (t : Bool) → eqb x b ≡ t → isDigit x ≡ true → indexOf b s ≡ length s → (if t then 0 else suc (indexOf b s)) ≡ suc (length s)
     go true g d ih = absurd (false≢true (sym f ∙ ap isDigit (sym (eqb-true x b g)) ∙ d))
@@ -187,18 +184,18 @@ parted {file} {at} {value} {end} p =
 begun : (file : List ℕ) (at letter : ℕ) → beginsWith file at letter ≡ true → drop at file ≡ letter ∷ comma ∷ drop (at + 2) file
 unfolding beginsWith
 begun file at letter e =
-    let w = both (isAt file at letter) (isAt file (at + 1) comma) e in
+    let w = and-true (isAt file at letter) (isAt file (at + 1) comma) e in
     let n : suc at ≡ at + 1 = omega arith in
     let m : suc (at + 1) ≡ at + 2 = omega arith in
     drop-byte file at letter (w .0) ∙ rw (n, drop-byte file (at + 1) comma (w .1), m)
 
 pub begun-inside : (file : List ℕ) (at letter : ℕ) → beginsWith file at letter ≡ true → at + 2 ≤ length file
 unfolding beginsWith
-begun-inside file at letter e = omega (arith, byte-at file (at + 1) comma (both (isAt file at letter) (isAt file (at + 1) comma) e .1) .0)
+begun-inside file at letter e = omega (arith, byte-at file (at + 1) comma (and-true (isAt file at letter) (isAt file (at + 1) comma) e .1) .0)
 
 ended : (file : List ℕ) (at end : ℕ) → endsLine file at end ≡ true → (isAt file end LF ≡ true) × (leb (end - at) longest ≡ true)
 unfolding endsLine
-ended file at end e = both (isAt file end LF) (leb (end - at) longest) e
+ended file at end e = and-true (isAt file end LF) (leb (end - at) longest) e
 
 pub ended-inside : (file : List ℕ) (at end : ℕ) → endsLine file at end ≡ true → end < length file
 ended-inside file at end e = byte-at file end LF (ended file at end e .0) .0

@@ -1,7 +1,7 @@
 -- The three mode bits of the risen word: its ones count those that have risen, its trailing zeros name the lowest.
 -- Assumes nothing.
 use mathlib.Core.Path.{_≡_, refl, sym, ap, _∙_, subst}
-use mathlib.Core.Bool.{Bool, true, false}
+use mathlib.Core.Bool.{Bool}
 use Prim.Native.Nat.{ℕ, zero, suc, _+_, _-_, _*_, _/_, _%_, _^_, _<_, _≤_}
 use native.Mathlib.Nat.{add-zero, mod-lt}
 use native.Mathlib.Omega.{arith}

@@ -1,18 +1,17 @@
 -- The two passes of `scan` over lists, with no memory: the refusal once i records are tested, the table once j are stepped, what a turn makes of each, and what they come to.
 -- Assumes nothing.
-use mathlib.Core.Path.{_≡_, refl, sym, _∙_, ap}
-use Prim.Native.Nat.{ℕ, zero, suc, _<_, _≤_, _^_, _+_}
-use native.Mathlib.Nat.{not-suc-le-zero, le-of-suc-le-suc}
+use mathlib.Core.Path.{_≡_, refl, sym}
+use Prim.Native.Nat.{ℕ, suc, _<_, _≤_, _^_, _+_}
+use native.Mathlib.Nat.{not-suc-le-zero}
 use native.Mathlib.Numerals.{add-one}
 use native.Mathlib.Omega.{arith}
 use mathlib.Core.Bool.{Bool, true, false, not, _&&_}
-use mathlib.Core.List.{List, [], _∷_}
+use mathlib.Core.List.{List}
 use lib.Dec.{eqb, lit<}
 use lib.ListN.{length, getD, set, take}
 use lib.Seq.{take-all, getD-take, length-take-le}
 use borrow.Author.Tests.{eqb-true, not-false, eq-eqb, lt-ltb, le-ltb}
 use Rattle.words.specs.Word.{if_then_else_}
-use Rattle.rules.specs.Steps.{step}
 use Rattle.rules.specs.Refusals.{mostMotors, misfit, inRange, periodOk, wordOk, allOk, oneAfter, tableRefusal, stepAll, tableAfter, partRefusal}
 use Rattle.rules.proofs.Tables.{or-false, allOk-suc, accepted, each-accepted, one-accepted, none-stepped, not-yet, one-more, length-stepAll}
 use Rattle.rules.specs.declared.Motor.{Motor}

@@ -3,7 +3,7 @@
 use mathlib.Core.Path.{_≡_, refl, sym, ap, ap₂, _∙_, subst}
 use mathlib.Core.Bool.{Bool, true, false, not, _&&_}
 use Prim.Native.Nat.{ℕ, zero, suc, _+_, _-_, _*_, _/_, _%_, _^_, _<_, _≤_, min}
-use native.Mathlib.Nat.{sub-le, lt-of-le-of-lt, lt-of-lt-of-le, pow-suc, mod-lt, div-eq-of-lt, one-mul, zero-mul, add-zero, add-suc, div-one, zero-min, add-mul-div-right, div-add-mod', div-mul-le-self, mul-le-mul-right, mul-div-cancel, mod-le}
+use native.Mathlib.Nat.{sub-le, lt-of-lt-of-le, pow-suc, mod-lt, div-eq-of-lt, one-mul, zero-mul, add-zero, add-suc, div-one, zero-min, add-mul-div-right, div-add-mod', div-mul-le-self, mul-le-mul-right, mul-div-cancel, mod-le}
 use native.Mathlib.Numerals.{one-add}
 use native.Mathlib.Omega.{arith}
 use lib.Dec.{lit<, eqb, ltb}
@@ -187,3 +187,8 @@ with-lt n k w hn hk hw = rw (or-bit k w (omega arith)) at (or-lt n w (2 ^ k) hw 
 pub without-le : (k n w : ℕ) → withoutBits k n w ≤ w
 unfolding withoutBits
 without-le k n w = sub-le w _
+
+-- two tests that hold together
+pub and-true : (a b : Bool) → a && b ≡ true → (a ≡ true) × (b ≡ true)
+and-true true b e = (refl, e)
+and-true false b e = (e, cc)

@@ -4,7 +4,7 @@ use Prim.Native.Nat.{suc, _-_, _≤_}
 use mathlib.Core.Path.{_≡_}
 use lib.ListN.{length}
 use borrow.Author.Tests.{leb-true}
-use Rattle.rules.proofs.Tables.{and-true}
+use Rattle.words.proofs.Laws.{and-true}
 use Rattle.bench.proofs.print.Statement.{statement}
 use Rattle.bench.proofs.print.Tie as tie
 use Rattle.bench.proofs.print.Reads as reads

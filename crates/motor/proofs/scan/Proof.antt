@@ -1,6 +1,6 @@
 use Rattle.rules.specs.Refusals.{oneAfter}
 use Rattle.words.specs.Word.{if_then_else_}
-use mathlib.Core.Path.{_≡_, sym, _∙_}
+use mathlib.Core.Path.{sym, _∙_}
 use borrow.Author.Tests.{eq-eqb, ne-eqb}
 use Rattle.rules.proofs.Range.{one-in-limits, steppable}
 use borrow.Author.Needs.{needs}

@@ -2,7 +2,7 @@ use borrow.Author.Needs.{needs}
 use mathlib.Core.Path.{refl}
 use Rattle.sheet.specs.Grammar.{requestRefusal}
 use Rattle.words.specs.Word.{if_then_else_}
-use Rattle.interpreter.specs.State.{refusalFor, changed, stateAfter}
+use Rattle.interpreter.specs.State.{refusalFor, stateAfter}
 use Rattle.interpreter.proofs.acts.act.Statement.{statement}
 use Rattle.interpreter.proofs.acts.act.Tie as tie
 

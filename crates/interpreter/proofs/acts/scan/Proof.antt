@@ -1,10 +1,7 @@
 use borrow.Author.Needs.{needs}
 use mathlib.Core.Path.{_≡_, _∙_, sym}
-use Prim.Native.Nat.{_≤_, min}
 use lib.ListN.{length, length-map}
-use Rattle.rules.specs.Refusals.{mostMotors}
 use Rattle.interpreter.specs.State.{refusalFor, viewOf}
-use native.Mathlib.Omega.{arith}
 use Rattle.interpreter.proofs.ActLaws.{accepted, refused, scan-refusal, scan-state}
 use Rattle.sheet.specs.declared.Request.the-variants.{Scan as S}
 use Rattle.interpreter.proofs.acts.scan.Statement.{statement}

@@ -1,10 +1,9 @@
 use borrow.Author.Needs.{needs}
 use native.Mathlib.Omega.{arith}
 use Prim.Native.Nat.{suc, _-_, _≤_}
-use mathlib.Core.Path.{_≡_}
 use lib.ListN.{length}
 use borrow.Author.Tests.{leb-true}
-use Rattle.rules.proofs.Tables.{and-true}
+use Rattle.words.proofs.Laws.{and-true}
 use Rattle.report.proofs.PutLaws.{put-length, then}
 use Rattle.interpreter.proofs.AdvanceLaws.{Filling, filling-none, none-filled, taken, room-left, filling-more, filled-up, filled}
 use Rattle.interpreter.proofs.course.fill.Statement.{statement}

@@ -1,8 +1,7 @@
 use borrow.Author.Needs.{needs}
 use native.Mathlib.Omega.{arith}
-use Prim.Native.Nat.{_-_, _<_, _≤_}
-use mathlib.Core.Path.{_≡_}
-use lib.ListN.{length, length-map}
+use Prim.Native.Nat.{_-_}
+use lib.ListN.{length}
 use Rattle.rules.specs.Refusals.{mostMotors}
 use Rattle.sheet.proofs.RequestLaws.{taken}
 use Rattle.interpreter.specs.Inputs.{Found, Run}

@@ -10,12 +10,13 @@ use Rattle.rules.specs.Steps.{step}
 use Rattle.rules.specs.declared.Motor.{Motor}
 use Rattle.rules.specs.Refusals.{mostMotors, oneRefusal}
 use Rattle.sheet.proofs.RequestLaws.{taken}
+use Rattle.table.proofs.Rows.{blank}
 use Rattle.report.proofs.PutLaws.{put-length}
 use Rattle.interpreter.specs.Inputs.{FoundScan, Ready, Scans}
 use Rattle.interpreter.specs.declared.Sitting.{Sitting}
 use Rattle.interpreter.specs.declared.scans.NextScan.the-variants.{Period}
 use Rattle.interpreter.proofs.AdvanceLaws.{scans-none, scans-inputs}
-use Rattle.interpreter.proofs.ScanLaws.{zeros, set-rested, set-scanned, Scanning, scanning-none, scanning-more, waiting, untimely, each-due, line-scanned}
+use Rattle.interpreter.proofs.ScanLaws.{set-rested, set-scanned, Scanning, scanning-none, scanning-more, waiting, untimely, each-due, line-scanned}
 use Rattle.interpreter.proofs.scans.scan_lines.Statement.{statement}
 use Rattle.interpreter.proofs.scans.scan_lines.Tie as tie
 
@@ -47,13 +48,13 @@ below c = omega (arith, c .loop2-test .taken, c .before .before .before .before 
 
 -- it is accepted
 ready : (c : tie.In-loop2 Inv-loop2 μ-loop2 Inv-loop μ-loop)
-    → oneRefusal (getD (c .before .loop2 .motors) (c .before .loop2 .i) zeros) (getD (c .before .before .before .before .before .before .before .before .take-inputs .result .words) (c .before .loop2 .i) 0) (c .before .before .before .before .period .given .0 .0) ≡ 0
+    → oneRefusal (getD (c .before .loop2 .motors) (c .before .loop2 .i) blank) (getD (c .before .before .before .before .before .before .before .before .take-inputs .result .words) (c .before .loop2 .i) 0) (c .before .before .before .before .period .given .0 .0) ≡ 0
 ready c =
     let e = c .before in
     let l = e .before .before .before .before .before .before .before .before .before .loop in
     let n = e .before .before .before .before .before .before .before .before .before .before .before .before .in-use .ensures in
-    rw (waiting (e .loop2 .inv .1) zeros)
-    (each-due (l .inv .3) (e .before .before .before .before .before .before .before .take-inputs .result) (l .inv .0) (l .inv .1) (l .inv .2) (rw n at (e .before .before .before .before .before .before .before .take-inputs .ensures)) _ _ (found e .0) (found e .1) (e .loop2 .i) zeros
+    rw (waiting (e .loop2 .inv .1) blank)
+    (each-due (l .inv .3) (e .before .before .before .before .before .before .before .take-inputs .result) (l .inv .0) (l .inv .1) (l .inv .2) (rw n at (e .before .before .before .before .before .before .before .take-inputs .ensures)) _ _ (found e .0) (found e .1) (e .loop2 .i) blank
     (omega (arith, c .loop2-test .taken, n)))
 
 in-use-requires : tie.Need-in-use-requires Inv-loop2 μ-loop2 Inv-loop μ-loop
@@ -174,13 +175,13 @@ loop2-again c =
     let t = c .before .before .before .before .before .before .before .before .before .before .before .before in
     let e = t .before in
     let j = c .before .before .before .before .before .before in
-    let m = getD (e .loop2 .motors) (e .loop2 .i) zeros in
+    let m = getD (e .loop2 .motors) (e .loop2 .i) blank in
     let word = getD (e .before .before .before .before .before .before .before .take-inputs .result .words) (e .loop2 .i) 0 in
     let period = e .before .before .before .period .given .0 .0 in
     let later : j .if1 .motors ≡ set (e .loop2 .motors) (e .loop2 .i) (step m word period) =
     ⊎-elim (λ w. w .3 ∙ set-rested (e .loop2 .motors) (e .loop2 .i) m word period (ready t) (sym (j .before .is-resting .ensures) ∙ w .0 .taken) (w .2 .ensures))
     (λ w. w .4 ∙ set-scanned (e .loop2 .motors) (e .loop2 .i) m word period (ready t) (w .2 .ensures .1)) (j .if1 .came) in
-    (omega (arith, t .loop2-test .taken), scanning-more (e .loop2 .inv .1) zeros (omega (arith, below t, e .before .before .before .before .before .before .before .before .before .loop .inv .0)) (omega (arith, below t, e .before .before .before .before .before .before .before .before .before .loop .inv .1, e .before .before .before .before .before .before .before .take-inputs .ensures .size)) later (rw (c .before .before .before .row .ensures) at (c .before .before .put-row .ensures)))
+    (omega (arith, t .loop2-test .taken), scanning-more (e .loop2 .inv .1) blank (omega (arith, below t, e .before .before .before .before .before .before .before .before .before .loop .inv .0)) (omega (arith, below t, e .before .before .before .before .before .before .before .before .before .loop .inv .1, e .before .before .before .before .before .before .before .take-inputs .ensures .size)) later (rw (c .before .before .before .row .ensures) at (c .before .before .put-row .ensures)))
 
 next-number-requires-2 : tie.Need-next-number-requires-2 Inv-loop2 μ-loop2 Inv-loop μ-loop
 next-number-requires-2 c κs = search needs

@@ -1,6 +1,6 @@
 use Rattle.rules.specs.Record.{idle, withStatus}
 use Rattle.rules.specs.Steps.{steps1to5}
-use Rattle.rules.proofs.Tables.{and-true}
+use Rattle.words.proofs.Laws.{and-true}
 use Rattle.rules.proofs.Quiet.{idle-first}
 use borrow.Author.Tests.{not-true}
 use mathlib.Core.Path.{sym, _∙_}

@@ -1,5 +1,4 @@
 use Rattle.rules.specs.Steps.{positionRead}
-use mathlib.Core.Path.{refl}
 use borrow.Author.Needs.{needs}
 use Rattle.status.proofs.switches.position_read.Statement.{statement}
 use Rattle.status.proofs.switches.position_read.Tie as tie
