@@ -1,14 +1,14 @@
 -- What one scan does to the command under way, and so how it ends. Assumes nothing.
 use Prim.Native.Nat.{ℕ, _+_, _≤_, _<_}
 use mathlib.Core.Path.{_≡_, refl, sym, _∙_}
-use mathlib.Core.Logic.{_↔_, _≢_}
+use mathlib.Core.Logic.{_↔_, _≢_, inr}
 use mathlib.Core.Bool.{Bool, true, false, not, _&&_, _||_, false≢true}
 use native.Mathlib.Omega.{arith}
 use native.Mathlib.Decide.{ℕ-discrete}
 use lib.Dec.{eqb, ltb, lit<}
 use borrow.Author.Tests.{eqb-true, eqb-false, ne-eqb, ltb-true}
-use Rattle.words.specs.Word.{if_then_else_, isSet, withoutBit}
-use Rattle.words.proofs.Laws.{if-lt, set-has, set-keeps, clear-keeps}
+use Rattle.words.specs.Word.{if_then_else_, isSet}
+use Rattle.words.proofs.Laws.{if-lt, set-has}
 use Rattle.rules.specs.declared.Settings.{Settings}
 use Rattle.rules.specs.declared.Status.{Status}
 use Rattle.rules.specs.declared.Reading.{Reading}
@@ -16,6 +16,7 @@ use Rattle.rules.specs.Record.{no-command, no-end, end-displaced, end-overdue, 
 use Rattle.rules.specs.Steps.{reading, confirms, confirmed, overdue, ended, end4, flags4, status1, status2, status4, putFlag, status5, status6, flags7, status7, chosen, displaces, starts, issues, issued, flags9, issueStatus, status9, status10, status1to6, status7to10}
 use Rattle.rules.specs.Scans.{Input}
 use Rattle.rules.proofs.Range.{issued-fits}
+use Rattle.rules.proofs.Flags.{put-keeps, keeps7, keeps9}
 use Rattle.book.specs.Log.{Log, none, _▸_, _⧺_, count}
 use Rattle.book.specs.Book.{isUp, book1to6, bookScan, bookOf}
 use Rattle.book.specs.Claim.{UnderWay, Issued, chosenIn, fate, Quiet, Ends}
@@ -76,39 +77,12 @@ turn c k q i n false false o live hq = free c k q i n (displaces k c) refl (rw l
 
 -- ---- the flag of an overdue command
 
-if-keeps : (k : ℕ) (b : Bool) (x y : ℕ) {t : Bool} → isSet k x ≡ t → isSet k y ≡ t → isSet k (if b then x else y) ≡ t
-unfolding if_then_else_
-if-keeps k true x y p q = p
-if-keeps k false x y p q = q
-
-clear-one-keeps : (j k w : ℕ) → j < k → isSet k (withoutBit j w) ≡ isSet k w
-unfolding withoutBit
-clear-one-keeps j k w h = clear-keeps j 1 k w (omega arith)
-
-put-keeps : (j k : ℕ) (b : Bool) (w : ℕ) → j < k → isSet k (putFlag j b w) ≡ isSet k w
-unfolding putFlag
-put-keeps j k b w h = if-keeps k b _ _ (set-keeps j k w h) (clear-one-keeps j k w h)
-
--- flags above 6 stay as step 4 left them
-keeps7 : (s : Settings) (v : Status) (word k : ℕ) → 6 < k → isSet k (flags7 s v word) ≡ isSet k (v .flags)
-unfolding flags7
-keeps7 s v word k l =
-    let off = if-keeps k _ _ _ (clear-keeps 5 2 k (v .flags) l) refl in
-    if-keeps k _ _ _ (clear-one-keeps 4 k _ (omega arith) ∙ off) off
-
-keeps9 : (c k f : ℕ) → 6 < k → isSet k (flags9 c f) ≡ isSet k f
-unfolding flags9
-keeps9 c k f l =
-    let g = if-keeps k _ _ _ (clear-keeps 5 2 k f l) (clear-one-keeps 4 k f (omega arith)) in
-    if-keeps k _ _ _ (set-keeps 4 k _ (omega arith) ∙ g)
-    (if-keeps k _ _ _ (set-keeps 5 k _ (omega arith) ∙ g) (if-keeps k _ _ _ (set-keeps 6 k _ l ∙ g) g))
-
-flag4 : (v : Status) (r : Reading) (up : Bool) → v .command < 26 → overdue v r up ≡ true
+flag4 : (v : Status) (r : Reading) (up : Bool) → v .command < 8 → overdue v r up ≡ true
     → isSet (overdueFlag (v .command)) (status4 v r up .flags) ≡ true
 unfolding status4 flags4 withFlags withCommand if_then_else_ overdueFlag
 flag4 v r up l late = rw late (set-has (6 + v .command) (v .flags) (omega arith))
 
-flag-after : (s : Settings) (v : Status) (word : ℕ) (up : Bool) → v .command ≢ 0 → v .command < 26
+flag-after : (s : Settings) (v : Status) (word : ℕ) (up : Bool) → v .command ≢ 0 → v .command < 8
     → overdue (status2 s (status1 v word) (reading s word)) (reading s word) up ≡ true
     → isSet (overdueFlag (v .command)) (status7to10 s (status1to6 s v word up) word .flags) ≡ true
 unfolding status7to10 status10 withPrevious status9 issueStatus status7 status1to6 status6 status5 status4 status2 status1 withFlags withMode withCommand withPositions if_then_else_ overdueFlag
@@ -121,16 +95,18 @@ flag-after s v word up ne lt late = go (eqb (issued s (status1to6 s v word up) w
     above = omega arith
 
     to6 : isSet k (status1to6 s v word up .flags) ≡ true
-    to6 = put-keeps 1 k _ _ (omega arith) ∙ put-keeps 0 k _ _ (omega arith) ∙ flag4 (status2 s (status1 v word) (reading s word)) (reading s word) up lt late
+    to6 =
+        put-keeps 14 k _ _ (λ e. omega arith) ∙ put-keeps 1 k _ _ (λ e. omega arith) ∙ put-keeps 0 k _ _ (λ e. omega arith)
+        ∙ flag4 (status2 s (status1 v word) (reading s word)) (reading s word) up lt late
 
     at7 : isSet k (status7 s (status1to6 s v word up) word .flags) ≡ true
-    at7 = keeps7 s (status1to6 s v word up) word k above ∙ to6
+    at7 = keeps7 s (status1to6 s v word up) word k (inr above) ∙ to6
 
     go : (b : Bool)
         → isSet k ((if b then status7 s (status1to6 s v word up) word else issueStatus s (status7 s (status1to6 s v word up) word) (issued s (status1to6 s v word up) word)) .flags)
         ≡ true
     go true = at7
-    go false = keeps9 _ k _ above ∙ at7
+    go false = keeps9 _ k _ (inr above) ∙ at7
 
 -- ---- the book's numbers
 
@@ -212,7 +188,7 @@ module _ (s : Settings) (h : Log Input) (y : Input) where
       let b = bookOf s h in
       let up = isUp s (b .issue) (h ▸ y) in
       let t = three (confirms (reading s (y .word)) (b .status .command)) up _ f in
-      flag-after s (b .status) (y .word) up (eqb-false _ 0 live) (omega (arith, command-lt s h)) (late-live s (b .status) (y .word) up live (t .0) (t .1))
+      flag-after s (b .status) (y .word) up (eqb-false _ 0 live) (command-lt s h) (late-live s (b .status) (y .word) up live (t .0) (t .1))
 
   idle-at : idle (bookOf s h .status) ≡ true → bookOf s (h ▸ y) .status .command ≢ 0 → bookOf s (h ▸ y) .issue ≡ count (h ▸ y)
   unfolding bookOf bookScan book1to6 idle

@@ -24,7 +24,7 @@ const TIME_MAX: u32 = 600000;
 
 const SUM_MAX: u32 = 599999;
 
-const FLAGS_MAX: u32 = 16383;
+const FLAGS_MAX: u32 = 32767;
 
 const PERIOD_MAX: u32 = 10000;
 

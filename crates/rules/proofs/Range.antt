@@ -16,10 +16,10 @@ use Rattle.rules.specs.declared.Status.{Status}
 use Rattle.rules.specs.declared.Output.{Output}
 use Rattle.rules.specs.declared.Motor.{Motor}
 use Rattle.rules.specs.declared.Reading.{Reading}
-use Rattle.rules.specs.declared.Reading.the-variants.{Off, On, Unsure}
+use Rattle.rules.specs.declared.Reading.the-variants.{Off, On, BothOpen, BothClosed}
 use Rattle.rules.specs.Record.{OPS₁, commands, idle, ownOutput, overdueFlag, freshStatus, dropped, fresh, withMode, withPositions, withCommand, withFlags, withPrevious, withStatus}
 use Rattle.rules.specs.Steps.{flags1, status1, reading, positionRead, flags2, pretended, status2, running, step3, confirmed, overdue, ended, end4, flags4, status4, timeUp, pulseOver, drops, step4, putFlag, status5, modeAsked, status6, flags7, status7, chosen, firstOf, issued, flags9, issueStatus, raised, withoutOpposite, output9, issue, step9, status10, steps1to5, steps6to10, step}
-use Rattle.rules.specs.Refusals.{settingsInRange, statusInRange, outputInRange, inRange, periodOk, wordOk, oneRefusal, oneAfter}
+use Rattle.rules.specs.Refusals.{mostFlags, settingsInRange, statusInRange, outputInRange, inRange, periodOk, wordOk, oneRefusal, oneAfter}
 use Rattle.rules.specs.Scans.{Input, scans, Steppable}
 
 -- ---- a choice has what both of its arms have
@@ -34,13 +34,17 @@ under {n} b = either (λ (k : ℕ). k < n) b
 
 -- ---- the ranges, as bounds
 
+-- flags 0 to 14
+abbrev flagCount : ℕ
+flagCount = 15
+
 record Fits (v : Status) : Type 0 where
   mode : v .mode < 3
   sure : v .sure < 3
   position : v .position < 3
   command : v .command < 8
   end : v .end < 4
-  flags : v .flags < 2 ^ 14
+  flags : v .flags < 2 ^ flagCount
   previous : v .previous < 131072
 
 -- ---- a field changed within its bound
@@ -57,7 +61,7 @@ with-command : {v : Status} {c e : ℕ} → Fits v → c < 8 → e < 4 → Fits 
 unfolding withCommand
 with-command f h l = record { mode = f .mode; sure = f .sure; position = f .position; command = h; end = l; flags = f .flags; previous = f .previous }
 
-with-flags : {v : Status} {k : ℕ} → Fits v → k < 2 ^ 14 → Fits (withFlags v k)
+with-flags : {v : Status} {k : ℕ} → Fits v → k < 2 ^ flagCount → Fits (withFlags v k)
 unfolding withFlags
 with-flags f h = record { mode = f .mode; sure = f .sure; position = f .position; command = f .command; end = f .end; flags = h; previous = f .previous }
 
@@ -67,17 +71,17 @@ with-previous f h = record { mode = f .mode; sure = f .sure; position = f .posit
 
 -- ---- the flags
 
-set : (k : ℕ) {f : ℕ} → k < 14 → f < 2 ^ 14 → withBit k f < 2 ^ 14
-set k {f} h = with-lt 14 k f (lit≤ tt) h
+set : (k : ℕ) {f : ℕ} → k < flagCount → f < 2 ^ flagCount → withBit k f < 2 ^ flagCount
+set k {f} h = with-lt flagCount k f (lit≤ tt) h
 
-clear : (k n : ℕ) {f : ℕ} → f < 2 ^ 14 → withoutBits k n f < 2 ^ 14
+clear : (k n : ℕ) {f : ℕ} → f < 2 ^ flagCount → withoutBits k n f < 2 ^ flagCount
 clear k n {f} h = lt-of-le-of-lt (without-le k n f) h
 
-clear-one : (k : ℕ) {f : ℕ} → f < 2 ^ 14 → withoutBit k f < 2 ^ 14
+clear-one : (k : ℕ) {f : ℕ} → f < 2 ^ flagCount → withoutBit k f < 2 ^ flagCount
 unfolding withoutBit
 clear-one k h = clear k 1 h
 
-put : (k : ℕ) (b : Bool) {f : ℕ} → k < 14 → f < 2 ^ 14 → putFlag k b f < 2 ^ 14
+put : (k : ℕ) (b : Bool) {f : ℕ} → k < flagCount → f < 2 ^ flagCount → putFlag k b f < 2 ^ flagCount
 unfolding putFlag
 put k b h l = under b (set k h l) (clear-one k l)
 
@@ -91,7 +95,8 @@ read-fits : (r : Reading) → positionRead r < 3
 unfolding positionRead
 read-fits Off = lit< tt
 read-fits On = lit< tt
-read-fits Unsure = lit< tt
+read-fits BothOpen = lit< tt
+read-fits BothClosed = lit< tt
 
 keeps2 : (s : Settings) (v : Status) (r : Reading) → Fits v → Fits (status2 s v r)
 unfolding status2 flags2 pretended
@@ -108,7 +113,7 @@ keeps4 v r up f =
 
 keeps5 : (s : Settings) (v : Status) (word : ℕ) (r : Reading) → Fits v → Fits (status5 s v word r)
 unfolding status5
-keeps5 s v word r f = with-flags f (put 1 _ (lit< tt) (put 0 _ (lit< tt) (f .flags)))
+keeps5 s v word r f = with-flags f (put 14 _ (lit< tt) (put 1 _ (lit< tt) (put 0 _ (lit< tt) (f .flags))))
 
 keeps6 : (s : Settings) (v : Status) (word : ℕ) → Fits v → Fits (status6 s v word)
 unfolding status6 modeAsked
@@ -262,7 +267,7 @@ status-fits v h =
     let p = leb (v .position) 2 in
     let c = leb (v .command) 7 in
     let e = leb (v .end) 3 in
-    let f = leb (v .flags) 16383 in
+    let f = leb (v .flags) mostFlags in
     let a = and-true (m && s && p && c && e && f) _ h in
     let b = and-true (m && s && p && c && e) _ (a .0) in
     let d = and-true (m && s && p && c) _ (b .0) in
@@ -317,7 +322,7 @@ in-range m f =
       below _ 2 (v .position),
       below _ 7 (v .command),
       below _ 3 (v .end),
-      below _ 16383 (v .flags),
+      below _ mostFlags (v .flags),
       below _ 131071 (v .previous),
       below _ 599999 (f .sum),
       below _ 2 (f .output),

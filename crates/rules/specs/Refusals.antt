@@ -20,7 +20,7 @@ abbrev pub mostSum : ℕ
 mostSum = 599999
 
 abbrev pub mostFlags : ℕ
-mostFlags = 16383
+mostFlags = 32767
 
 abbrev pub mostWord : ℕ
 mostWord = 131071

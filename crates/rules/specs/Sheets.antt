@@ -99,10 +99,10 @@ paperSheets =
     ∷ sheet (wiring 193 0 0 300) (32 ∷ 4128 ∷ 32 ∷ []) (line 2 1 0 3 0 8192)
     -- words 32, 16 *
     ∷ sheet wired (32 ∷ 16 ∷ []) (line 2 2 0 0 0 4)
-    -- scan 1, word 48 *, OPS_2 28 *, 12
-    ∷ sheet wired (48 ∷ []) (line 2 0 0 0 0 2)
-    ∷ sheet (wiring 193 28 500 300) (48 ∷ []) (line 2 2 0 0 0 2)
-    ∷ sheet (wiring 193 12 500 300) (48 ∷ []) (line 2 1 0 0 0 2)
+    -- scan 1, word 48 *, OPS_2 28 *, 12; their flags are those of request 1
+    ∷ sheet wired (48 ∷ []) (line 2 0 0 0 0 16386)
+    ∷ sheet (wiring 193 28 500 300) (48 ∷ []) (line 2 2 0 0 0 16386)
+    ∷ sheet (wiring 193 12 500 300) (48 ∷ []) (line 2 1 0 0 0 16386)
     -- scan 1, word 544 *, word 2592 *
     ∷ sheet wired (544 ∷ []) (mode ≔ 0 ∷ [])
     ∷ sheet wired (2592 ∷ []) (mode ≔ 2 ∷ [])
@@ -119,7 +119,7 @@ ownSheets =
     -- step 2: from On to Off; the On switch alone; the last sure position pretended
     ∷ sheet wired (16 ∷ 32 ∷ []) (line 2 1 0 0 0 8)
     ∷ sheet (wiring 192 0 500 300) (48 ∷ []) (line 2 2 0 0 0 0)
-    ∷ sheet (wiring 193 4 500 300) (32 ∷ 48 ∷ []) (line 2 1 0 0 0 2)
+    ∷ sheet (wiring 193 4 500 300) (32 ∷ 48 ∷ []) (line 2 1 0 0 0 16386)
     -- step 2: from On the last sure position pretended is On
     ∷ sheet (wiring 193 4 500 300) (16 ∷ 48 ∷ []) (position ≔ 2 ∷ [])
     -- step 2: OPS_2 bits 3 and 4 count with bit 2 only; an unsure reading leaves the last sure position
@@ -156,8 +156,20 @@ ownSheets =
     ∷ sheet wired (96 ∷ []) (flags ≔ 0 ∷ [])
     ∷ sheet (wiring 195 0 500 300) (32 ∷ []) (flags ≔ 0 ∷ [])
     ∷ sheet (wiring 199 0 500 300) (98 ∷ []) (flags ≔ 1 ∷ [])
-    -- step 5: a switch fault is not formed in local mode
+    -- step 5: both open is flag 1 alone, both closed is flags 1 and 14; flag 14 goes when they open, and when the reading becomes sure
+    ∷ sheet wired (0 ∷ []) (line 2 0 0 0 0 2)
+    ∷ sheet wired (0 ∷ 48 ∷ []) (flags ≔ 16386 ∷ [])
+    ∷ sheet wired (48 ∷ 0 ∷ []) (flags ≔ 2 ∷ [])
+    ∷ sheet wired (48 ∷ 32 ∷ []) (flags ≔ 0 ∷ [])
+    -- step 5: neither while a command is under way; both in the scan in which it ends
+    ∷ sheet wired (32 ∷ 4128 ∷ 48 ∷ []) (command ≔ 7 ∷ flags ≔ 0 ∷ [])
+    ∷ sheet (wiring 193 0 0 300) (32 ∷ 4128 ∷ 48 ∷ []) (end ≔ 3 ∷ flags ≔ 24578 ∷ [])
+    -- step 5: a switch fault is formed in local mode with OPS_2 bit 1, or with OPS_1 bit 2, only
     ∷ sheet wired (50 ∷ []) (flags ≔ 0 ∷ [])
+    ∷ sheet wired (48 ∷ 50 ∷ []) (flags ≔ 0 ∷ [])
+    ∷ sheet (wiring 193 2 500 300) (50 ∷ []) (flags ≔ 16386 ∷ [])
+    ∷ sheet (wiring 193 2 500 300) (2 ∷ []) (flags ≔ 2 ∷ [])
+    ∷ sheet (wiring 197 0 500 300) (50 ∷ []) (flags ≔ 16386 ∷ [])
     -- step 6: Reserve; not from On; not by two bits; not without supply, unless OPS_1 bit 14 lets it
     ∷ sheet wired (32 ∷ 1056 ∷ []) (mode ≔ 1 ∷ [])
     ∷ sheet wired (16 ∷ 1040 ∷ []) (mode ≔ 2 ∷ [])
@@ -215,7 +227,7 @@ ownSheets =
     -- step 8: flag 0 bars on commands, not off commands; flag 1 bars none
     ∷ sheet (wiring 195 0 500 300) (96 ∷ 224 ∷ []) (command ≔ 0 ∷ flags ≔ 1 ∷ [])
     ∷ sheet (wiring 195 0 500 300) (16 ∷ 336 ∷ []) (command ≔ 2 ∷ [])
-    ∷ sheet wired (48 ∷ 176 ∷ []) (command ≔ 3 ∷ flags ≔ 18 ∷ [])
+    ∷ sheet wired (48 ∷ 176 ∷ []) (command ≔ 3 ∷ flags ≔ 16402 ∷ [])
     -- step 8: KO off only outside local mode, LZ off in both; not at its own position; SMA does not displace SMA
     ∷ sheet wired (16 ∷ 8210 ∷ []) (command ≔ 0 ∷ [])
     ∷ sheet wired (16 ∷ 274 ∷ []) (command ≔ 2 ∷ [])
@@ -261,23 +273,38 @@ ownSheets =
 
 -- Our own, from a lent record that is in range and breaks the rules: idle sums stay; a pulse that is not of the direction of the overdue
 -- command stays
-unfoldable pub lent : ℕ → ℕ → ℕ → ℕ → Motor
-lent c time state run =
+unfoldable pub lent : ℕ → ℕ → ℕ → ℕ → ℕ → Motor
+lent c time state run n =
     record {
       settings = wired;
-      status = record { mode = 2; sure = 1; position = 1; command = c; end = 0; flags = 0; previous = 32 };
+      status = record { mode = 2; sure = 1; position = 1; command = c; end = 0; flags = n; previous = 32 };
       sum = time;
       output = record { state = state; sum = run };
     }
 
+unfoldable pub flagged : ℕ → ℕ → Motor
+flagged c n = lent c 0 0 0 n
+
+-- one scan, and the flags before and after it
+unfoldable pub flagsAfter : ℕ → ℕ → ℕ → ℕ → Sheet
+flagsAfter c before word after = record { start = flagged c before; inputs = inputsOf (word ∷ []); marks = flags ≔ after ∷ [] }
+
 unfoldable pub lentSheets : List Sheet
 lentSheets =
-    record { start = lent 0 7 0 9; inputs = inputsOf (32 ∷ []); marks = sum ≔ 7 ∷ pulse ≔ 9 ∷ [] }
-    ∷ record { start = lent 7 400 2 0; inputs = inputsOf (32 ∷ []); marks = end ≔ 3 ∷ sum ≔ 0 ∷ output ≔ 2 ∷ pulse ≔ 100 ∷ [] }
+    record { start = lent 0 7 0 9 0; inputs = inputsOf (32 ∷ []); marks = sum ≔ 7 ∷ pulse ≔ 9 ∷ [] }
+    ∷ record { start = lent 7 400 2 0 0; inputs = inputsOf (32 ∷ []); marks = end ≔ 3 ∷ sum ≔ 0 ∷ output ≔ 2 ∷ pulse ≔ 100 ∷ [] }
+    -- flag 14 lent without flag 1: it goes with a sure reading, with both open, with a command under way and in local mode
+    ∷ flagsAfter 0 16384 32 0
+    ∷ flagsAfter 0 16384 0 2
+    ∷ flagsAfter 7 16384 48 0
+    ∷ flagsAfter 0 16386 50 0
+    -- both closed, all flags lent: all but flag 0 stay, and with Reset flags 1 and 14
+    ∷ flagsAfter 0 32767 48 32766
+    ∷ flagsAfter 0 32767 65584 16386
     ∷ []
 
 pub sheets-right : allRight (paperSheets ++ (ownSheets ++ lentSheets)) ≡ true
-unfolding opened allRight allAccepted allMarked valueOf inputsOf sheet wiring wired line paperSheets ownSheets lent lentSheets
+unfolding opened allRight allAccepted allMarked valueOf inputsOf sheet wiring wired line paperSheets ownSheets lent flagged flagsAfter lentSheets
 sheets-right = refl
 
 -- The limits, on both sides, and the order of refusals.
@@ -297,6 +324,8 @@ refusals =
     ∷ oneRefusal (fresh wired) 32 0
     ∷ oneRefusal (fresh (wiring 193 0 600000 600000)) 32 100
     ∷ oneRefusal (fresh (wiring 193 0 600001 300)) 131072 10001
+    ∷ oneRefusal (flagged 0 32767) 32 100
+    ∷ oneRefusal (flagged 0 32768) 32 100
     ∷ tableRefusal (tableOf 32) (wordsOf 32) 100
     ∷ tableRefusal (tableOf 33) (wordsOf 33) 100
     ∷ tableRefusal (tableOf 2) (wordsOf 3) 100
@@ -307,6 +336,6 @@ refusals =
     ∷ tableRefusal [] [] 100
     ∷ []
 
-pub refusals-right : refusals ≡ (0 ∷ 3 ∷ 2 ∷ 2 ∷ 0 ∷ 6 ∷ 0 ∷ 1 ∷ 1 ∷ 6 ∷ 2 ∷ 3 ∷ 2 ∷ 0 ∷ [])
-unfolding opened wiring wired tableOf wordsOf refusals
+pub refusals-right : refusals ≡ (0 ∷ 3 ∷ 2 ∷ 2 ∷ 0 ∷ 6 ∷ 0 ∷ 6 ∷ 0 ∷ 1 ∷ 1 ∷ 6 ∷ 2 ∷ 3 ∷ 2 ∷ 0 ∷ [])
+unfolding opened wiring wired lent flagged tableOf wordsOf refusals
 refusals-right = refl

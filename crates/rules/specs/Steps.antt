@@ -13,7 +13,7 @@ use Rattle.rules.specs.declared.Status.{Status}
 use Rattle.rules.specs.declared.Output.{Output}
 use Rattle.rules.specs.declared.Motor.{Motor}
 use Rattle.rules.specs.declared.Reading.{Reading}
-use Rattle.rules.specs.declared.Reading.the-variants.{Off, On, Unsure}
+use Rattle.rules.specs.declared.Reading.the-variants.{Off, On, BothOpen, BothClosed}
 use Rattle.rules.specs.Record.{OPS₁, OPS₂, localMode, onSwitch, offSwitch, noSupply, forbidOn, forbidOff, reset, repair, reserve, work, unsure, off, on, no-end, end-confirmed, end-displaced, end-overdue, no-output, no-command, commands, SMA-off, LZ-off, LZ-on, KO-off, KO-on, isMU, isKO, isOn, isOff, direction, ownOutput, oppositeOutput, flag, overdueFlag, bitRisen, commandRisen, idle, dropped, withMode, withPositions, withCommand, withFlags, withPrevious, withStatus}
 
 -- Step 1. End becomes 0. Reset clears flags 2 to 13.
@@ -23,22 +23,30 @@ flags1 v word = if reset word then withoutBits 2 12 (v .flags) else v .flags
 unfoldable pub status1 : Status → ℕ → Status
 status1 v word = withFlags (withCommand v (v .command) no-end) (flags1 v word)
 
--- Step 2. OPS_1 bit 0 = 0: On switch 1 means On, 0 means Off, always sure. Bit 0 = 1: sure if the two switches differ.
+-- Step 2. OPS_1 bit 0 = 0: On switch 1 means On, 0 means Off, always sure. Bit 0 = 1: sure if the two switches differ; if not, the
+-- reading says whether both are open (0) or both closed (1) (request 1).
 unfoldable pub readOnSwitch : ℕ → Reading
 readOnSwitch word = if onSwitch word then On else Off
 
+-- by the On switch and the Off switch, true where closed
+unfoldable pub pairRead : Bool → Bool → Reading
+pairRead true false = On
+pairRead false true = Off
+pairRead false false = BothOpen
+pairRead true true = BothClosed
+
 unfoldable pub readSwitches : ℕ → Reading
-readSwitches word =
-    if onSwitch word && not (offSwitch word) then On else if offSwitch word && not (onSwitch word) then Off else Unsure
+readSwitches word = pairRead (onSwitch word) (offSwitch word)
 
 unfoldable pub reading : Settings → ℕ → Reading
 reading s word = if OPS₁ s 0 then readSwitches word else readOnSwitch word
 
--- the position that is read; Unsure gives none
+-- the position that is read; both open and both closed give none
 unfoldable pub positionRead : Reading → ℕ
 positionRead Off = off
 positionRead On = on
-positionRead Unsure = unsure
+positionRead BothOpen = unsure
+positionRead BothClosed = unsure
 
 unfoldable pub isSure : Reading → Bool
 isSure r = not (eqb (positionRead r) unsure)
@@ -132,7 +140,7 @@ step4 m r =
       output = if drops m r then dropped else m .output;
     }
 
--- Step 5. Flags 0 and 1 are formed if OPS_2 bit 1 = 1, or bit 1 of the word = 0, or OPS_1 bit 2 = 1; otherwise both are 0.
+-- Step 5. Flags 0, 1 and 14 are formed if OPS_2 bit 1 = 1, or bit 1 of the word = 0, or OPS_1 bit 2 = 1; otherwise they are 0.
 unfoldable pub faultsFormed : Settings → ℕ → Bool
 faultsFormed s word = OPS₂ s 1 || not (localMode word) || OPS₁ s 2
 
@@ -143,12 +151,23 @@ supplyFault s word = faultsFormed s word && noSupply word && OPS₁ s 1
 unfoldable pub switchFault : Settings → Status → ℕ → Reading → Bool
 switchFault s v word r = faultsFormed s word && not (isSure r) && idle v
 
+-- Flag 14 (request 1): flag 1 because both switches are closed.
+unfoldable pub bothClosed : Reading → Bool
+bothClosed Off = false
+bothClosed On = false
+bothClosed BothOpen = false
+bothClosed BothClosed = true
+
+unfoldable pub closedFault : Settings → Status → ℕ → Reading → Bool
+closedFault s v word r = switchFault s v word r && bothClosed r
+
 -- a flag put to a value
 unfoldable pub putFlag : ℕ → Bool → ℕ → ℕ
 putFlag k b flags = if b then withBit k flags else withoutBit k flags
 
 unfoldable pub status5 : Settings → Status → ℕ → Reading → Status
-status5 s v word r = withFlags v (putFlag 1 (switchFault s v word r) (putFlag 0 (supplyFault s word) (v .flags)))
+status5 s v word r =
+    withFlags v (putFlag 14 (closedFault s v word r) (putFlag 1 (switchFault s v word r) (putFlag 0 (supplyFault s word) (v .flags))))
 
 -- Step 6. Mode changes only outside local mode, if exactly one of bits 9 to 11 has risen, no command is under way and no switching
 -- command's bit has risen.

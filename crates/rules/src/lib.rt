@@ -35,9 +35,10 @@ pub struct Motor {
     pub output: Output,
 }
 
-// What the switches read.
+// What the switches read: a position, or none for one of two causes.
 pub enum Reading {
     Off,
     On,
-    Unsure,
+    BothOpen,
+    BothClosed,
 }

@@ -1,6 +1,7 @@
-// Step 5: flags 0 (no supply) and 1 (switch fault).
+// Step 5: flags 0 (no supply), 1 (switch fault) and 14 (switch fault, both closed).
 ghost use mathlib.Core.Path.{_≡_};
 ghost use Rattle.rules.specs.Steps.{faultsFormed, supplyFault, switchFault, putFlag, status5};
+use crate::switches::both_closed;
 use crate::switches::is_sure;
 use rules::Reading;
 use rules::Settings;
@@ -37,8 +38,9 @@ pub fn put_flag(flags: u32, k: u32, value: bool) -> u32
 pub fn form_flags(s: Settings, v: Status, word: u32, r: Reading) -> Status
     ensures { λ x. ⌜ x ≡ status5 s v word r ⌝ }
 {
-    let f = put_flag(v.flags, 0, lacks_supply(s, word));
+    let fault = has_switch_fault(s, v, word, r);
+    let f = put_flag(put_flag(v.flags, 0, lacks_supply(s, word)), 1, fault);
     let mut n = v;
-    n.flags = put_flag(f, 1, has_switch_fault(s, v, word, r));
+    n.flags = put_flag(f, 14, fault & both_closed(r));
     n
 }

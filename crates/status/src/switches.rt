@@ -1,8 +1,6 @@
 // Steps 1 and 2: end and Reset, and the switches.
 ghost use mathlib.Core.Path.{_≡_};
-ghost use mathlib.Core.Bool.{_&&_, not};
-ghost use Rattle.words.specs.Word.{if_then_else_};
-ghost use Rattle.rules.specs.Steps.{status1, readOnSwitch, readSwitches, reading, isSure, positionRead, flags2, pretended, status2};
+ghost use Rattle.rules.specs.Steps.{status1, readOnSwitch, pairRead, readSwitches, reading, isSure, positionRead, bothClosed, flags2, pretended, status2};
 use rules::Reading;
 use rules::Settings;
 use rules::Status;
@@ -35,17 +33,21 @@ pub fn read_on_switch(word: u32) -> Reading
     }
 }
 
-// The reading of an On and an Off switch: sure if they differ.
+// The reading of an On and an Off switch: sure if they differ, otherwise which of two faults it is.
 pub fn read_pair(on: bool, off: bool) -> Reading
-    ensures { λ r. ⌜ r ≡ (if on && not off then Reading.On else if off && not on then Reading.Off else Reading.Unsure) ⌝ }
+    ensures { λ r. ⌜ r ≡ pairRead on off ⌝ }
 {
-    if on & !off {
-        return Reading::On;
+    if on {
+        if off {
+            Reading::BothClosed
+        } else {
+            Reading::On
+        }
+    } else if off {
+        Reading::Off
+    } else {
+        Reading::BothOpen
     }
-    if off & !on {
-        return Reading::Off;
-    }
-    Reading::Unsure
 }
 
 pub fn read_switches(word: u32) -> Reading
@@ -72,7 +74,8 @@ pub fn position_read(r: Reading) -> u32
     match r {
         Reading::Off => 1,
         Reading::On => 2,
-        Reading::Unsure => 0,
+        Reading::BothOpen => 0,
+        Reading::BothClosed => 0,
     }
 }
 
@@ -80,6 +83,17 @@ pub fn is_sure(r: Reading) -> bool
     ensures { λ x. ⌜ x ≡ isSure r ⌝ }
 {
     position_read(r) != 0
+}
+
+pub fn both_closed(r: Reading) -> bool
+    ensures { λ x. ⌜ x ≡ bothClosed r ⌝ }
+{
+    match r {
+        Reading::Off => false,
+        Reading::On => false,
+        Reading::BothOpen => false,
+        Reading::BothClosed => true,
+    }
 }
 
 // The flags after a change of position that no command asked for.

@@ -2,15 +2,16 @@
 -- Assumes nothing.
 use mathlib.Core.Path.{_≡_, refl, sym, ap, ap₂, _∙_, subst}
 use mathlib.Core.Bool.{Bool, true, false, not, _&&_}
+use mathlib.Core.Logic.{_≢_, _⊎_, inl, inr}
 use Prim.Native.Nat.{ℕ, zero, suc, _+_, _-_, _*_, _/_, _%_, _^_, _<_, _≤_, min}
-use native.Mathlib.Nat.{sub-le, lt-of-lt-of-le, pow-suc, mod-lt, div-eq-of-lt, one-mul, zero-mul, add-zero, add-suc, div-one, zero-min, add-mul-div-right, div-add-mod', div-mul-le-self, mul-le-mul-right, mul-div-cancel, mod-le}
+use native.Mathlib.Nat.{sub-le, lt-of-lt-of-le, pow-suc, mod-lt, div-eq-of-lt, one-mul, zero-mul, add-zero, add-suc, div-one, zero-min, add-mul-div-right, div-add-mod', div-mul-le-self, mul-le-mul-right, mul-div-cancel, mul-assoc, mod-le}
 use native.Mathlib.Numerals.{one-add}
 use native.Mathlib.Omega.{arith}
 use lib.Dec.{lit<, eqb, ltb}
 use lib.Arith.{lt-one}
-use lib.Pow.{pow-pos, pow-lt, pow-mono, shl-lt, shl-exact, shr-lt, shr-shr, ones-lt, high-ones}
+use lib.Pow.{pow-pos, pow-lt, pow-mono, pow-add, shl-lt, shl-exact, shr-lt, shr-shr, ones-lt, high-ones}
 use lib.Bits.{bitAnd, bitOr, or-lt, and-le-l, and-high, and-step, and-shr, and-mod, or-add-and}
-use borrow.Author.Tests.{lt-ltb, ltb-true, ltb-false, eq-eqb}
+use borrow.Author.Tests.{lt-ltb, ltb-true, ltb-false, eq-eqb, ne-eqb}
 use Rattle.words.specs.Word.{if_then_else_, bitOf, isSet, rose, without, withoutBits, withoutBit, withBit}
 
 -- a bit is 0 or 1
@@ -148,9 +149,22 @@ pub set-has : (k w : ℕ) → k < 32 → isSet k (withBit k w) ≡ true
 unfolding isSet bitOf withBit if_then_else_
 set-has k w h = rw (lt-ltb k 32 h) (eq-eqb ((w + (1 - w / 2 ^ k % 2) * 2 ^ k) / 2 ^ k % 2) 1 (rw (set-shr k w) (omega arith)))
 
-pub set-keeps : (j k w : ℕ) → j < k → isSet k (withBit j w) ≡ isSet k w
+-- a multiple of what bit j counts changes no bit below it
+low-kept : (j k w x : ℕ) → k < j → isSet k (w + x * 2 ^ j) ≡ isSet k w
+unfolding isSet bitOf
+low-kept j k w x h =
+    let i : ℕ = j - k - 1 in
+    let power : 2 ^ j ≡ 2 ^ suc i * 2 ^ k = ap (λ (n : ℕ). 2 ^ n) (omega arith) ∙ pow-add 2 (suc i) k in
+    let split : x * 2 ^ j ≡ x * 2 ^ suc i * 2 ^ k = ap (λ (n : ℕ). x * n) power ∙ sym (mul-assoc x (2 ^ suc i) (2 ^ k)) in
+    let even : x * 2 ^ suc i ≡ x * 2 ^ i * 2 = ap (λ (n : ℕ). x * n) (pow-suc 2 i) ∙ sym (mul-assoc x (2 ^ i) 2) in
+    let shr : (w + x * 2 ^ j) / 2 ^ k ≡ w / 2 ^ k + x * 2 ^ i * 2 = ap (λ (n : ℕ). (w + n) / 2 ^ k) split ∙ add-mul-div-right w (x * 2 ^ suc i) (pow-pos k) ∙ ap (λ (n : ℕ). w / 2 ^ k + n) even in
+    let same : (w + x * 2 ^ j) / 2 ^ k % 2 ≡ w / 2 ^ k % 2 = omega (arith, shr) in
+    ap (λ (n : ℕ). eqb n 1) same
+
+-- setting a bit changes no other
+pub set-keeps : (j k w : ℕ) → j ≢ k → isSet k (withBit j w) ≡ isSet k w
 unfolding withBit bitOf if_then_else_
-set-keeps j k w h = go (ltb j 32)
+set-keeps j k w ne = go (ltb j 32) (ltb j k) refl
   where
     odd : (w / 2 ^ j + (1 - w / 2 ^ j % 2)) / 2 ≡ w / 2 ^ j / 2
     odd = omega arith
@@ -158,22 +172,40 @@ set-keeps j k w h = go (ltb j 32)
     half : (w + (1 - bitOf j w) * 2 ^ j) / 2 ^ (j + 1) ≡ w / 2 ^ (j + 1)
     half = sym (shr-shr (w + (1 - bitOf j w) * 2 ^ j) j 1) ∙ ap (λ (n : ℕ). n / 2) (set-shr j w) ∙ odd ∙ shr-shr w j 1
 
-    go : (b : Bool) → isSet k (if b then w + (1 - bitOf j w) * 2 ^ j else w) ≡ isSet k w
-    go true = from-quotient (j + 1) k w _ (omega arith) half
-    go false = refl
+    go : (b above : Bool) → ltb j k ≡ above → isSet k (if b then w + (1 - bitOf j w) * 2 ^ j else w) ≡ isSet k w
+    go true true e = from-quotient (j + 1) k w _ (let h = ltb-true j k e in omega arith) half
+    go true false e = low-kept j k w _ (let h = ltb-false j k e in omega arith)
+    go false above e = refl
 
-pub clear-keeps : (j n k w : ℕ) → j + n ≤ k → isSet k (withoutBits j n w) ≡ isSet k w
+-- what clearing the n bits from bit j on takes away is in the word, and leaves these bits 0
+record Cleared (j n w : ℕ) : Type 0 where
+  sum : withoutBits j n w + w / 2 ^ j % 2 ^ n * 2 ^ j ≡ w
+  high : withoutBits j n w / 2 ^ j ≡ w / 2 ^ j / 2 ^ n * 2 ^ n
+
+cleared : (j n w : ℕ) → Cleared j n w
 unfolding withoutBits
-clear-keeps j n k w h =
+cleared j n w =
     let q : ℕ = w / 2 ^ j in
     let r : ℕ = q % 2 ^ n in
     let whole : q / 2 ^ n * 2 ^ n + r ≡ q = div-add-mod' q (2 ^ n) in
     let fits : r * 2 ^ j ≤ w = omega (arith, mul-le-mul-right (2 ^ j) (mod-le q (2 ^ n)), div-mul-le-self w (2 ^ j)) in
     let sum : w - r * 2 ^ j + r * 2 ^ j ≡ w = omega arith in
     let low : (w - r * 2 ^ j) / 2 ^ j + r ≡ q = sym (add-mul-div-right (w - r * 2 ^ j) r (pow-pos j)) ∙ ap (λ (x : ℕ). x / 2 ^ j) sum in
-    let high : (w - r * 2 ^ j) / 2 ^ j ≡ q / 2 ^ n * 2 ^ n = omega arith in
+    record { sum = sum; high = omega arith }
+
+-- and changes no other bit
+pub clear-keeps : (j n k w : ℕ) → (k < j) ⊎ (j + n ≤ k) → isSet k (withoutBits j n w) ≡ isSet k w
+clear-keeps j n k w (inl h) =
+    sym (low-kept j k (withoutBits j n w) (w / 2 ^ j % 2 ^ n) h) ∙ ap (isSet k) (cleared j n w .sum)
+clear-keeps j n k w (inr h) =
     from-quotient (j + n) k w _ h
-    (sym (shr-shr (w - r * 2 ^ j) j n) ∙ ap (λ (x : ℕ). x / 2 ^ n) high ∙ mul-div-cancel (q / 2 ^ n) (pow-pos n) ∙ shr-shr w j n)
+    (sym (shr-shr (withoutBits j n w) j n) ∙ ap (λ (x : ℕ). x / 2 ^ n) (cleared j n w .high) ∙ mul-div-cancel (w / 2 ^ j / 2 ^ n) (pow-pos n)
+    ∙ shr-shr w j n)
+
+-- a bit that is cleared is 0
+pub clear-has : (k w : ℕ) → isSet k (withoutBit k w) ≡ false
+unfolding withoutBit isSet bitOf
+clear-has k w = ne-eqb (withoutBits k 1 w / 2 ^ k % 2) 1 (λ e. let h = cleared k 1 w .high in omega arith)
 
 -- bounds
 pub if-lt : {n : ℕ} (b : Bool) {x y : ℕ} → x < n → y < n → (if b then x else y) < n

@@ -15,5 +15,9 @@ returns-3 : tie.Need-returns-3
 unfolding positionRead
 returns-3 c = cc
 
+returns-4 : tie.Need-returns-4
+unfolding positionRead
+returns-4 c = cc
+
 pub position-read-spec : {M : Type 1} → statement M
-position-read-spec = tie.close (tie.spec (λ c. search needs) (λ c. search needs) (λ c. search needs) returns returns-2 returns-3)
+position-read-spec = tie.close (tie.spec (λ c. search needs) (λ c. search needs) (λ c. search needs) (λ c. search needs) returns returns-2 returns-3 returns-4)
