@@ -2,11 +2,11 @@
 use Prim.Native.Nat.{ℕ, suc, _+_, _*_, _≤_, max}
 use mathlib.Core.Path.{_≡_}
 use mathlib.Core.Logic.{_↔_, _≢_, _⊎_}
-use mathlib.Core.Bool.{Bool, true, false}
+use mathlib.Core.Bool.{Bool, true, false, _&&_}
 use Rattle.words.specs.Word.{if_then_else_, isSet}
 use Rattle.rules.specs.declared.Settings.{Settings}
-use Rattle.rules.specs.Record.{no-command, no-end, end-confirmed, end-displaced, end-overdue, overdueFlag, idle}
-use Rattle.rules.specs.Steps.{reading, confirms, chosen, displaces, step}
+use Rattle.rules.specs.Record.{no-command, no-end, end-confirmed, end-displaced, end-overdue, flag, overdueFlag, idle}
+use Rattle.rules.specs.Steps.{reading, confirms, bothClosed, chosen, displaces, step}
 use Rattle.rules.specs.Scans.{Input}
 use Rattle.book.specs.Log.{Log, none, _▸_, _⧺_, count}
 use Rattle.book.specs.History.{Entry, inputOf, counts, recordAfter, history, recordOf}
@@ -96,6 +96,9 @@ pub record Demand3 (s : Settings) (es : Log Entry) : Type 0 where
   -- the sum of a command under way is the time since its issue, added up from the history
   pub time-is : idle (recordAfter s es .status) ≡ false
       → recordAfter s es .sum ≡ since (bookOf s (history s es) .issue) (history s es)
+  -- after a scan flag 14 stands exactly if flag 1 does and that scan read both switches closed
+  pub closed-flag : (h : Log Input) (x : Input) → history s es ≡ (h ▸ x)
+      → flag (recordAfter s es .status) 14 ≡ (flag (recordAfter s es .status) 1 && bothClosed (reading s (x .word)))
   -- an accepted entry that takes the motor in takes the ten steps and is entered in the history
   pub taken : (e : Entry) → counts (recordAfter s es) e ≡ true
       → (recordAfter s (es ▸ e) ≡ step (recordAfter s es) (inputOf e .word) (inputOf e .period))
