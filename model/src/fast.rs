@@ -11,6 +11,10 @@ const ON_MASK: u32 = 1 << 3 | 1 << 5 | 1 << 7;
 const OFF_MASK: u32 = 1 << 1 | 1 << 2 | 1 << 4 | 1 << 6;
 const MU_MASK: u32 = 1 << 4 | 1 << 5;
 const KO_MASK: u32 = 1 << 6 | 1 << 7;
+/// Flags that step 5 forms.
+const FORMED: u32 = 1 | 1 << 1 | 1 << 14;
+/// Of these, the ones of an idle motor's reading: 0 both open, 1 Off, 2 On, 3 both closed.
+const FAULT: [u32; 4] = [1 << 1, 0, 0, 1 << 1 | 1 << 14];
 
 #[derive(Clone, Copy, Default)]
 struct Motor {
@@ -47,20 +51,17 @@ impl Motor {
         self.previous = word;
         self.end = 0;
         if word >> 16 & 1 == 1 {
-            self.flags &= 3;
+            self.flags &= FORMED;
         }
 
         let switches = word >> 4 & 3;
         let reading = if ops & 1 == 0 {
             1 + (switches & 1) as u8
         } else {
-            match switches {
-                1 => 2,
-                2 => 1,
-                _ => 0,
-            }
+            // Positions count the other way round than the bits; 0 and 3 stay.
+            (switches >> 1 | switches << 1) as u8 & 3
         };
-        if reading != 0 {
+        if reading == 1 || reading == 2 {
             if self.command == 0 && self.sure != 0 && self.sure != reading {
                 self.flags |= if reading == 2 { 4 } else { 8 };
             }
@@ -101,11 +102,11 @@ impl Motor {
             }
         }
 
-        self.flags &= !3;
+        self.flags &= !FORMED;
         if outside || self.ops2 & 2 != 0 || ops & 4 != 0 {
             self.flags |= word >> 6 & ops >> 1 & 1;
-            if reading == 0 && self.command == 0 {
-                self.flags |= 2;
+            if self.command == 0 {
+                self.flags |= FAULT[reading as usize & 3];
             }
         }
 

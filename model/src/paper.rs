@@ -1,4 +1,5 @@
-//! The sheets of the paper, and others worked by hand from its sentences.
+//! The sheets of the paper, those with word 48 as ask 1 has them, and others
+//! worked by hand.
 
 /// What a sheet marks.
 #[derive(Clone, Debug)]
@@ -14,7 +15,6 @@ pub enum Mark {
 #[derive(Clone, Copy, Debug)]
 pub enum Field {
     Mode = 3,
-    Position = 4,
     Output = 7,
 }
 
@@ -106,9 +106,17 @@ pub fn sheets() -> Vec<Sheet> {
             Last("R,3,1,2,1,0,3,0,8192"),
         ),
         sheet("words 32, 16", &[MOTOR, "I,1,32\nS,100\nI,1,16\nS,100\n"], Last("R,2,1,2,2,0,0,0,4")),
-        sheet("scan 1, word 48", &[MOTOR, "I,1,48\nS,100\n"], whole("R,1,1,2,0,0,0,0,2\n")),
-        sheet("word 48, OPS_2 28", &["M,1,193,28,500,300\nI,1,48\nS,100\n"], Only(Position, "2")),
-        sheet("word 48, OPS_2 12", &["M,1,193,12,500,300\nI,1,48\nS,100\n"], Only(Position, "1")),
+        sheet("scan 1, word 48", &[MOTOR, "I,1,48\nS,100\n"], whole("R,1,1,2,0,0,0,0,16386\n")),
+        sheet(
+            "word 48, OPS_2 28",
+            &["M,1,193,28,500,300\nI,1,48\nS,100\n"],
+            whole("R,1,1,2,2,0,0,0,16386\n"),
+        ),
+        sheet(
+            "word 48, OPS_2 12",
+            &["M,1,193,12,500,300\nI,1,48\nS,100\n"],
+            whole("R,1,1,2,1,0,0,0,16386\n"),
+        ),
         sheet("scan 1, word 544", &[MOTOR, "I,1,544\nS,100\n"], Only(Mode, "0")),
         sheet("scan 1, word 2592", &[MOTOR, "I,1,2592\nS,100\n"], Only(Mode, "2")),
         sheet("period 10,000", &[MOTOR, "I,1,32\nS,10000\n"], whole("R,1,1,2,1,0,0,0,0\n")),
@@ -118,7 +126,7 @@ pub fn sheets() -> Vec<Sheet> {
         sheet("word 131,072", &[MOTOR, "I,1,131072\nS,100\n"], whole("E,2,3\n")),
         sheet("W 600,000", &["M,1,193,0,600000,300\nI,1,32\nS,100\n"], whole("R,1,1,2,1,0,0,0,0\n")),
         sheet("W 600,001", &["M,1,193,0,600001,300\nI,1,32\nS,100\n"], whole("E,1,4\n")),
-        // Word 0: neither switch, so unsure with flag 1.
+        // Word 0: both open, so unsure with flag 1 alone.
         sheet("32 motors", &[&table_32, "S,100\n"], Mark::Whole(print_32)),
         sheet("33 motors", &[&table_32, "M,33,193,0,500,300\nS,100\n"], whole("E,33,7\n")),
     ]
@@ -150,6 +158,25 @@ pub fn more_sheets() -> Vec<Sheet> {
         sheet("32 bits and one", &["S,4294967297\n"], whole("E,1,5\n")),
         sheet("64 bits and one", &["S,18446744073709551617\n"], whole("E,1,5\n")),
         sheet("128 bits and one", &["S,340282366920938463463374607431768211457\n"], whole("E,1,5\n")),
+        // Both closed in local mode: flags 1 and 14 where they are formed, though
+        // Reset is 1 and SMA is issued in this very scan.
+        sheet(
+            "word 131,071, OPS_2 2",
+            &["M,1,193,2,500,300\nI,1,131071\nS,100\n"],
+            whole("R,1,1,2,0,1,0,0,16450\n"),
+        ),
+        sheet(
+            "both closed, both open, Off",
+            &[MOTOR, "I,1,48\nS,100\nI,1,0\nS,100\nI,1,32\nS,100\n"],
+            whole("R,1,1,2,0,0,0,0,16386\nR,2,1,2,0,0,0,0,2\nR,3,1,2,1,0,0,0,0\n"),
+        ),
+        // Under way nothing is told; once overdue, all of it.
+        sheet(
+            "both closed until overdue",
+            &[MOTOR, "I,1,4128\nS,100\nI,1,48\nS,499\nS,1\n"],
+            whole("R,1,1,2,1,7,0,1,0\nR,2,1,2,0,7,0,0,0\nR,3,1,2,0,0,3,0,24578\n"),
+        ),
+        sheet("one switch, word 48", &["M,1,192,0,500,300\nI,1,48\nS,100\n"], whole("R,1,1,2,2,0,0,0,0\n")),
         // "Confirming from the position instead of a sure reading".
         sheet(
             "a pretended position does not confirm",

@@ -67,7 +67,7 @@ impl Record {
             && self.end <= 3
             && self.output <= 2
             && self.pulse_sum <= 599_999
-            && self.flags < 16_384
+            && self.flags < 32_768
             && self.previous < 131_072
     }
 }

@@ -12,6 +12,28 @@ pub enum Way {
     On,
 }
 
+/// What the switches read. A bit of 1 is a closed switch.
+#[derive(Clone, Copy, Debug, PartialEq, Eq)]
+pub enum Reading {
+    Off,
+    On,
+    /// Unsure, as after a broken wire.
+    BothOpen,
+    /// Unsure, as after a short.
+    BothClosed,
+}
+
+impl Reading {
+    /// The position read, nothing if it is unsure.
+    pub fn sure(self) -> Option<Way> {
+        match self {
+            Reading::Off => Some(Way::Off),
+            Reading::On => Some(Way::On),
+            Reading::BothOpen | Reading::BothClosed => None,
+        }
+    }
+}
+
 /// The seven switching commands, strongest first.
 #[derive(Clone, Copy, Debug, PartialEq, Eq, PartialOrd, Ord)]
 pub enum Command {
@@ -86,6 +108,8 @@ pub enum Flag {
     OffByLz,
     OffBySma,
     Late(Command),
+    /// Stands only together with `SwitchFault`.
+    BothClosed,
 }
 
 impl Flag {
@@ -99,13 +123,14 @@ impl Flag {
             Flag::OffByLz => 5,
             Flag::OffBySma => 6,
             Flag::Late(command) => 6 + command.number() as usize,
+            Flag::BothClosed => 14,
         }
     }
 }
 
-/// The fourteen flags.
+/// The fifteen flags.
 #[derive(Clone, Copy, Debug, PartialEq, Eq, Default)]
-pub struct Flags([bool; 14]);
+pub struct Flags([bool; 15]);
 
 impl Flags {
     pub fn has(&self, flag: Flag) -> bool {
@@ -394,33 +419,36 @@ pub struct Trace {
 pub fn begin(face: &mut Face, now: &Input) {
     face.end = None;
     if now.reset {
-        // Flags 2 to 13: all but the two that step 5 forms.
+        // Flags 2 to 13: all but the three that step 5 forms.
         let kept = face.flags;
         face.flags = Flags::default();
-        face.flags.put(Flag::NoSupply, kept.has(Flag::NoSupply));
-        face.flags.put(Flag::SwitchFault, kept.has(Flag::SwitchFault));
+        for flag in [Flag::NoSupply, Flag::SwitchFault, Flag::BothClosed] {
+            face.flags.put(flag, kept.has(flag));
+        }
     }
 }
 
-/// Step 2. Hands back the reading, nothing if it is unsure.
-pub fn read_switches(face: &mut Face, settings: &Settings, now: &Input) -> Option<Way> {
+/// Step 2. Hands back the reading; the two bits are looked at here alone.
+pub fn read_switches(face: &mut Face, settings: &Settings, now: &Input) -> Reading {
     let reading = match (settings.two_switches, now.on_switch, now.off_switch) {
-        (false, true, _) => Some(Way::On),
-        (false, false, _) => Some(Way::Off),
-        (true, true, false) => Some(Way::On),
-        (true, false, true) => Some(Way::Off),
-        (true, _, _) => None,
+        (false, true, _) => Reading::On,
+        (false, false, _) => Reading::Off,
+        (true, true, false) => Reading::On,
+        (true, false, true) => Reading::Off,
+        (true, false, false) => Reading::BothOpen,
+        (true, true, true) => Reading::BothClosed,
     };
     if face.command.is_none() {
         match (face.last_sure, reading) {
-            (Some(Way::Off), Some(Way::On)) => face.flags.set(Flag::UnsanctionedOn),
-            (Some(Way::On), Some(Way::Off)) => face.flags.set(Flag::UnsanctionedOff),
+            (Some(Way::Off), Reading::On) => face.flags.set(Flag::UnsanctionedOn),
+            (Some(Way::On), Reading::Off) => face.flags.set(Flag::UnsanctionedOff),
             _ => {}
         }
     }
-    if reading.is_some() {
-        face.last_sure = reading;
-        face.position = reading;
+    let sure = reading.sure();
+    if sure.is_some() {
+        face.last_sure = sure;
+        face.position = sure;
     } else {
         face.position = match (settings.pretend, settings.pretend_fixed, settings.pretend_on) {
             (false, _, _) => None,
@@ -433,9 +461,9 @@ pub fn read_switches(face: &mut Face, settings: &Settings, now: &Input) -> Optio
 }
 
 /// The first half of step 4, for a given sum of the command under way.
-pub fn end_command(face: &mut Face, reading: Option<Way>, time_is_up: bool) -> Option<(Command, End)> {
+pub fn end_command(face: &mut Face, reading: Reading, time_is_up: bool) -> Option<(Command, End)> {
     let command = face.command?;
-    let end = if reading == Some(command.way()) {
+    let end = if reading.sure() == Some(command.way()) {
         End::Confirmed
     } else if time_is_up {
         face.flags.set(Flag::Late(command));
@@ -448,12 +476,13 @@ pub fn end_command(face: &mut Face, reading: Option<Way>, time_is_up: bool) -> O
     Some((command, end))
 }
 
-/// Step 5.
-pub fn form_flags(face: &mut Face, settings: &Settings, now: &Input, reading: Option<Way>) {
+/// Step 5, with the flag that tells both closed from both open.
+pub fn form_flags(face: &mut Face, settings: &Settings, now: &Input, reading: Reading) {
     let formed = settings.always_form || !now.local || settings.local_through_block;
-    let unsure_and_idle = reading.is_none() && face.command.is_none();
+    let fault = formed && reading.sure().is_none() && face.command.is_none();
     face.flags.put(Flag::NoSupply, formed && now.no_supply && settings.supply_input);
-    face.flags.put(Flag::SwitchFault, formed && unsure_and_idle);
+    face.flags.put(Flag::SwitchFault, fault);
+    face.flags.put(Flag::BothClosed, fault && reading == Reading::BothClosed);
 }
 
 /// Step 6.
@@ -687,8 +716,8 @@ fn ten_steps(record: &mut Record, word: u32, period: u32) -> Trace {
     // 2
     let marked = [face.flags.has(Flag::UnsanctionedOn), face.flags.has(Flag::UnsanctionedOff)];
     let reading = read_switches(&mut face, &settings, &change.now);
-    trace.unsure = reading.is_none();
-    trace.pretended = reading.is_none() && face.position.is_some();
+    trace.unsure = reading.sure().is_none();
+    trace.pretended = trace.unsure && face.position.is_some();
     trace.unsanctioned =
         marked != [face.flags.has(Flag::UnsanctionedOn), face.flags.has(Flag::UnsanctionedOff)];
 

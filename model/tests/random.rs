@@ -49,6 +49,14 @@ fn tidy(record: &Record) {
     assert!(pulses && record.output != 0 || record.pulse_sum == 0);
     assert!(record.pulse_sum == 0 || record.pulse_sum < record.pulse);
     assert!(record.position == 0 || record.position == record.last_sure || record.ops_2 & 12 == 12);
+    flag_14_with_flag_1(record);
+}
+
+/// Holds after every accepted scan, lent records included: the word of the scan
+/// is then the previous word.
+fn flag_14_with_flag_1(record: &Record) {
+    let both_closed = record.flags & 2 != 0 && record.previous & 48 == 48;
+    assert_eq!(record.flags & 16_384 != 0, both_closed, "{record:?}");
 }
 
 #[test]
@@ -63,32 +71,38 @@ fn model_and_fast_version() {
     }
 }
 
+/// Any record in range.
+fn lent_record(dice: &mut Dice) -> Record {
+    let mut below = |limit: u32| dice.within(0, limit);
+    Record {
+        ops_1: below(65_535),
+        ops_2: below(31),
+        wait: below(600_000),
+        pulse: below(600_000),
+        mode: below(2),
+        last_sure: below(2),
+        position: below(2),
+        command: below(7),
+        sum: below(599_999),
+        end: below(3),
+        output: below(2),
+        pulse_sum: below(599_999),
+        flags: below(32_767),
+        previous: below(131_071),
+    }
+}
+
 /// Any record in range stays in range and keeps its settings.
 #[test]
 fn lent_records_stay_in_range() {
     let mut dice = Dice::new(9, 9);
     for _ in 0..300_000 {
-        let mut below = |limit: u32| dice.within(0, limit);
-        let lent = Record {
-            ops_1: below(65_535),
-            ops_2: below(31),
-            wait: below(600_000),
-            pulse: below(600_000),
-            mode: below(2),
-            last_sure: below(2),
-            position: below(2),
-            command: below(7),
-            sum: below(599_999),
-            end: below(3),
-            output: below(2),
-            pulse_sum: below(599_999),
-            flags: below(16_383),
-            previous: below(131_071),
-        };
-        let (word, period) = (below(131_071), 1 + below(9_999));
+        let lent = lent_record(&mut dice);
+        let (word, period) = (dice.within(0, 131_071), dice.within(1, 10_000));
         let mut record = lent;
         scan_one(&mut record, word, period).unwrap();
         assert!(record.in_range(), "{lent:?} {word} {period}");
+        flag_14_with_flag_1(&record);
         let settings = |r: &Record| [r.ops_1, r.ops_2, r.wait, r.pulse];
         assert_eq!(settings(&record), settings(&lent));
         assert_eq!(record.previous, word);
@@ -100,6 +114,28 @@ fn lent_records_stay_in_range() {
             assert_eq!(record.pulse_sum, lent.pulse_sum);
         }
     }
+}
+
+/// Both open and both closed make the same of any record but for flag 14.
+#[test]
+fn unsure_either_way() {
+    let mut dice = Dice::new(9, 10);
+    let mut told = 0;
+    for _ in 0..100_000 {
+        let mut lent = lent_record(&mut dice);
+        lent.ops_1 |= 1;
+        if dice.percent(50) {
+            lent.command = 0;
+        }
+        let (word, period) = (dice.within(0, 131_071), dice.within(1, 10_000));
+        let (mut open, mut closed) = (lent, lent);
+        scan_one(&mut open, word & !48, period).unwrap();
+        scan_one(&mut closed, word | 48, period).unwrap();
+        let flags = open.flags | if open.flags & 2 != 0 { 16_384 } else { 0 };
+        assert_eq!(closed, Record { flags, previous: word | 48, ..open }, "{lent:?} {word} {period}");
+        told += u32::from(closed.flags != open.flags);
+    }
+    assert!(told > 30_000, "{told}");
 }
 
 /// Files come from seed and number alone, and hold what they should.

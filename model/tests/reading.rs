@@ -1,7 +1,8 @@
-//! Edge cases of the ten steps, each with the sentence it rests on.
+//! Edge cases of the ten steps, each with the sentence it rests on; those of
+//! ask 1 after step 5.
 
 use motor_model::record::Record;
-use motor_model::rules::scan_one;
+use motor_model::rules::{scan_one, scan_table};
 
 const SMA: u32 = 1;
 const LOCAL: u32 = 2;
@@ -20,6 +21,9 @@ const KO_OFF: u32 = 8192;
 const FORBID_ON: u32 = 16_384;
 const FORBID_OFF: u32 = 32_768;
 const RESET: u32 = 65_536;
+
+/// Both closed.
+const FLAG_14: u32 = 16_384;
 
 /// Option bits by number.
 fn bits(list: &[u32]) -> u32 {
@@ -66,11 +70,14 @@ fn reset() {
     assert_eq!(play(&mut m, &[OFF, ON]).flags, 4);
     assert_eq!(play(&mut m, &[OFF | RESET]).flags, 8);
     assert_eq!(play(&mut m, &[OFF | RESET]).flags, 0);
-    let mut lent = Record { flags: 16_383, previous: RESET | OFF, ..usual() };
+    let mut lent = Record { flags: 32_767, previous: RESET | OFF, ..usual() };
     assert_eq!(play(&mut lent, &[RESET | OFF]).flags, 0);
-    // Flags 0 and 1 are not Reset's but are formed anew.
-    let mut lent = Record { flags: 3, ..motor(&[0, 1], &[], 0, 0) };
-    assert_eq!(play(&mut lent, &[RESET | NO_SUPPLY]).flags, 3);
+    // Flags 0, 1 and 14 are not Reset's but are formed anew.
+    for flags in [0, 3, FLAG_14 + 3, 32_767] {
+        let lent = Record { flags, ..motor(&[0, 1], &[], 0, 0) };
+        assert_eq!(play(&mut lent.clone(), &[RESET | NO_SUPPLY]).flags, 3);
+        assert_eq!(play(&mut lent.clone(), &[RESET | NO_SUPPLY | ON | OFF]).flags, FLAG_14 + 3);
+    }
 }
 
 /// Reset comes first, so that nothing is left to acknowledge in step 7.
@@ -133,7 +140,8 @@ fn pretending() {
         assert_eq!(play(&mut m, &[ON, ON | OFF]).position, after_on);
         assert_eq!(m.last_sure, 2);
         // "Flag 1: unsure", which a pretended position does not cure.
-        assert_eq!(m.flags, 2);
+        assert_eq!(m.flags, FLAG_14 + 2);
+        assert_eq!(play(&mut m, &[0]).flags, 2);
     }
 }
 
@@ -249,6 +257,151 @@ fn switch_fault_and_commands() {
     assert_eq!(play(&mut m, &[0]).flags, 8192 + 2);
     let m = play(&mut usual(), &[KO_ON]);
     assert_eq!((m.command, m.flags), (7, 2));
+}
+
+// Ask 1: both open or both closed
+
+/// Flag 14 stands with flag 1 when both switches are closed, never when both
+/// are open, and goes with the next reading, whatever it is.
+#[test]
+fn both_open_or_both_closed() {
+    let list = [(0, 2), (ON, 0), (OFF, 0), (ON | OFF, FLAG_14 + 2)];
+    for (first, flags) in list {
+        assert_eq!(play(&mut usual(), &[first]).flags, flags);
+        for (second, flags) in list {
+            // Flags 2 and 3 tell of a sure change.
+            let m = play(&mut usual(), &[first, second, second]);
+            assert_eq!(m.flags & !12, flags, "{first} {second}");
+        }
+    }
+}
+
+/// One switch is always sure: the other bit tells nothing.
+#[test]
+fn one_switch_is_never_both() {
+    for flags in [0, 2, FLAG_14, FLAG_14 + 2] {
+        for word in [0, ON, OFF, ON | OFF] {
+            let mut lent = Record { flags, ..motor(&[6, 7], &[], 500, 300) };
+            assert_eq!(play(&mut lent, &[word]).flags, 0);
+            assert_eq!(play(&mut lent, &[word | LOCAL]).flags, 0);
+        }
+    }
+}
+
+/// While a command is under way both flags are 0. It is under way from the scan
+/// after its issue up to its end, as for flag 1.
+#[test]
+fn both_closed_and_commands() {
+    let closed = ON | OFF;
+    let mut m = motor(&[0, 6], &[], 200, 300);
+    // Issued in this scan, after step 5.
+    play(&mut m, &[closed, closed | KO_ON]);
+    assert_eq!((m.command, m.flags), (7, FLAG_14 + 2));
+    play(&mut m, &[closed]);
+    assert_eq!((m.command, m.flags), (7, 0));
+    // Overdue in this scan, before step 5.
+    let other = play(&mut m.clone(), &[0]);
+    assert_eq!((other.command, other.end, other.flags), (0, 3, 8192 + 2));
+    play(&mut m, &[closed]);
+    assert_eq!((m.command, m.end, m.flags), (0, 3, FLAG_14 + 8192 + 2));
+    // Displacing leaves one under way.
+    let m = play(&mut usual(), &[OFF | KO_ON, closed | LZ_OFF, closed]);
+    assert_eq!((m.command, m.flags), (2, 32));
+    // Both closed confirms neither direction.
+    for command in 1..=7 {
+        let m = play(&mut Record { command, ..usual() }, &[closed]);
+        assert_eq!((m.command, m.sum, m.end, m.flags), (command, 100, 0, 0));
+    }
+}
+
+/// In local mode flag 14 is formed where flag 1 is, and is otherwise 0, also
+/// when it stood before.
+#[test]
+fn both_closed_in_local_mode() {
+    let closed = ON | OFF;
+    for (ops_1, ops_2, formed) in [
+        (&[0][..], &[][..], false),
+        (&[0], &[1], true),
+        (&[0, 2], &[], true),
+        (&[0, 2], &[1], true),
+        (&[0, 1, 3, 4, 5, 6, 7], &[0, 2, 3, 4], false),
+    ] {
+        let of = |flags| if formed { flags } else { 0 };
+        let mut m = motor(ops_1, ops_2, 500, 300);
+        assert_eq!(play(&mut m, &[closed | LOCAL]).flags, of(FLAG_14 + 2));
+        assert_eq!(play(&mut m, &[LOCAL]).flags, of(2));
+        assert_eq!(play(&mut m, &[closed]).flags, FLAG_14 + 2);
+        assert_eq!(play(&mut m, &[closed | LOCAL]).flags, of(FLAG_14 + 2));
+        assert_eq!(play(&mut m, &[closed]).flags, FLAG_14 + 2);
+        assert_eq!(play(&mut m, &[OFF | LOCAL]).flags, 0);
+        // Under way, formed or not.
+        let mut lent = Record { command: 5, flags: FLAG_14 + 2, ..motor(ops_1, ops_2, 500, 300) };
+        assert_eq!(play(&mut lent, &[closed | LOCAL]).flags, 0);
+    }
+}
+
+/// A lent record may hold flag 14 beside anything, even without flag 1; the
+/// scan forms it anew in every case.
+#[test]
+fn lent_with_flag_14() {
+    let choices = |list: &[u32]| -> Vec<u32> {
+        (0..1u32 << list.len())
+            .map(|take| (0..list.len()).filter(|k| take >> k & 1 == 1).map(|k| list[k]).sum())
+            .collect()
+    };
+    let mut both_closed = 0;
+    for word in choices(&[ON, OFF, LOCAL, NO_SUPPLY, RESET]) {
+        for ops_1 in choices(&[1, 2, 4]) {
+            for ops_2 in choices(&[2, 4, 8, 16]) {
+                for (flags, command) in
+                    [0, 2, FLAG_14, FLAG_14 + 2, 32_767].into_iter().flat_map(|f| [(f, 0), (f, 7)])
+                {
+                    let lent = Record { flags, command, ..Record::fresh(ops_1, ops_2, 500, 0) };
+                    let m = play(&mut lent.clone(), &[word]);
+                    let formed = ops_2 & 2 != 0 || ops_1 & 4 != 0 || word & LOCAL == 0;
+                    let wanted = word & (ON | OFF) == ON | OFF && ops_1 & 1 == 1 && formed && command == 0;
+                    assert_eq!(m.flags & FLAG_14 != 0, wanted, "{lent:?} {word}");
+                    assert!(!wanted || m.flags & 2 != 0);
+                    both_closed += u32::from(wanted);
+                }
+            }
+        }
+    }
+    // A quarter of the words, in half the wirings, idle, formed in seven of eight.
+    assert_eq!(both_closed, 32 * 8 * 16 * 10 / 4 / 2 / 2 * 7 / 8);
+}
+
+/// Nothing else goes by flag 14: keys and commands take both closed as they
+/// take both open, and a lent flag 14 alone bars nothing.
+#[test]
+fn both_closed_bars_no_more_than_both_open() {
+    for switches in [0, ON | OFF] {
+        // Pretending Off: Reserve goes by flag 1 and OPS_1 bit 13.
+        assert_eq!(play(&mut motor(&[0], &[2, 3], 0, 0), &[switches | RESERVE]).mode, 2);
+        assert_eq!(play(&mut motor(&[0, 13], &[2, 3], 0, 0), &[switches | RESERVE]).mode, 1);
+        assert_eq!(play(&mut motor(&[0], &[2, 3], 0, 0), &[switches | REPAIR]).mode, 0);
+        for (word, number) in [(KO_ON, 7), (KO_OFF, 6), (LZ_ON, 3), (LZ_OFF, 2), (SMA, 1)] {
+            assert_eq!(play(&mut usual(), &[switches | word]).command, number);
+        }
+    }
+    let mut lent = Record { flags: FLAG_14 + 2, ..usual() };
+    assert_eq!(play(&mut lent, &[OFF | RESERVE]).mode, 1);
+}
+
+/// A refused scan leaves the record, flag 14 included.
+#[test]
+fn refused_with_both_closed() {
+    for flags in [0, 2, FLAG_14, FLAG_14 + 2] {
+        let lent = Record { flags, ..usual() };
+        for (word, period) in [(ON | OFF, 0), (OFF, 0), (ON | OFF, 10_001), (131_072 + 48, 100)] {
+            let mut one = lent;
+            assert!(scan_one(&mut one, word, period).is_err());
+            assert_eq!(one, lent);
+            let mut table = [lent, lent];
+            assert!(scan_table(&mut table, &[ON | OFF, word], period).is_err());
+            assert_eq!(table, [lent, lent]);
+        }
+    }
 }
 
 // Step 6

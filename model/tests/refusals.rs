@@ -242,7 +242,7 @@ fn ranges_of_a_lent_record() {
         (|r| &mut r.end, 3),
         (|r| &mut r.output, 2),
         (|r| &mut r.pulse_sum, 599_999),
-        (|r| &mut r.flags, 16_383),
+        (|r| &mut r.flags, 32_767),
         (|r| &mut r.previous, 131_071),
     ];
     for (field, greatest) in edges {
