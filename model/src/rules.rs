@@ -397,7 +397,8 @@ pub struct Trace {
     pub work_by_command: bool,
     pub acknowledged_off: bool,
     pub acknowledged_on: bool,
-    pub unsure: bool,
+    /// Nothing before step 2.
+    pub reading: Option<Reading>,
     pub pretended: bool,
     pub unsanctioned: bool,
     pub raised_pulse: bool,
@@ -413,6 +414,8 @@ pub struct Trace {
     pub reset: bool,
     pub no_supply: bool,
     pub switch_fault: bool,
+    /// A command is under way as step 5 forms the flags.
+    pub under_way: bool,
 }
 
 /// Step 1.
@@ -716,8 +719,8 @@ fn ten_steps(record: &mut Record, word: u32, period: u32) -> Trace {
     // 2
     let marked = [face.flags.has(Flag::UnsanctionedOn), face.flags.has(Flag::UnsanctionedOff)];
     let reading = read_switches(&mut face, &settings, &change.now);
-    trace.unsure = reading.sure().is_none();
-    trace.pretended = trace.unsure && face.position.is_some();
+    trace.reading = Some(reading);
+    trace.pretended = reading.sure().is_none() && face.position.is_some();
     trace.unsanctioned =
         marked != [face.flags.has(Flag::UnsanctionedOn), face.flags.has(Flag::UnsanctionedOff)];
 
@@ -750,6 +753,7 @@ fn ten_steps(record: &mut Record, word: u32, period: u32) -> Trace {
     form_flags(&mut face, &settings, &change.now, reading);
     trace.no_supply = face.flags.has(Flag::NoSupply);
     trace.switch_fault = face.flags.has(Flag::SwitchFault);
+    trace.under_way = face.command.is_some();
 
     // 6
     let old_mode = face.mode;

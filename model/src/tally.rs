@@ -1,7 +1,7 @@
 //! Counts of what happened in the files.
 
 use crate::file::Done;
-use crate::rules::{Cause, Command, End, Mode, Trace};
+use crate::rules::{Cause, Command, End, Mode, Reading, Trace};
 use std::fmt;
 
 #[derive(Clone, Debug, Default)]
@@ -21,7 +21,8 @@ pub struct Tally {
     pub modes: [u64; 3],
     pub work_by_command: u64,
     pub acknowledged: [u64; 2],
-    pub unsure: u64,
+    pub both_open: Unsure,
+    pub both_closed: Unsure,
     pub pretended: u64,
     pub unsanctioned: u64,
     pub pulses: u64,
@@ -34,8 +35,45 @@ pub struct Tally {
     pub local: u64,
     pub reset: u64,
     pub no_supply: u64,
-    pub switch_fault: u64,
     pub refused: [u64; 11],
+}
+
+/// Readings unsure in one way, by what step 5 meets.
+#[derive(Clone, Copy, Debug, Default)]
+pub struct Unsure {
+    /// No command under way, outside local mode.
+    pub idle: u64,
+    /// The same in local mode, with flags formed and without.
+    pub idle_local: [u64; 2],
+    /// A command under way, outside local mode and in it.
+    pub under_way: [u64; 2],
+}
+
+impl Unsure {
+    fn count(&mut self, trace: &Trace) {
+        match (trace.under_way, trace.local) {
+            (false, false) => self.idle += 1,
+            (false, true) => self.idle_local[usize::from(!trace.switch_fault)] += 1,
+            (true, local) => self.under_way[usize::from(local)] += 1,
+        }
+    }
+
+    fn add(&mut self, other: &Unsure) {
+        self.idle += other.idle;
+        for place in 0..2 {
+            self.idle_local[place] += other.idle_local[place];
+            self.under_way[place] += other.under_way[place];
+        }
+    }
+
+    /// Those with flag 1.
+    pub fn faults(&self) -> u64 {
+        self.idle + self.idle_local[0]
+    }
+
+    pub fn all(&self) -> u64 {
+        self.idle + self.idle_local.iter().chain(&self.under_way).sum::<u64>()
+    }
 }
 
 impl Tally {
@@ -67,13 +105,17 @@ impl Tally {
             Some(Cause::Confirmed) => self.dropped[2] += 1,
             None => {}
         }
+        match trace.reading {
+            Some(Reading::BothOpen) => self.both_open.count(trace),
+            Some(Reading::BothClosed) => self.both_closed.count(trace),
+            Some(Reading::Off | Reading::On) | None => {}
+        }
         self.acknowledged[0] += u64::from(trace.acknowledged_off);
         self.acknowledged[1] += u64::from(trace.acknowledged_on);
         self.barred += u64::from(trace.barred);
         self.lost += u64::from(trace.lost);
         for (count, happened) in [
             (&mut self.work_by_command, trace.work_by_command),
-            (&mut self.unsure, trace.unsure),
             (&mut self.pretended, trace.pretended),
             (&mut self.unsanctioned, trace.unsanctioned),
             (&mut self.pulses, trace.raised_pulse),
@@ -82,7 +124,6 @@ impl Tally {
             (&mut self.local, trace.local),
             (&mut self.reset, trace.reset),
             (&mut self.no_supply, trace.no_supply),
-            (&mut self.switch_fault, trace.switch_fault),
         ] {
             *count += u64::from(happened);
         }
@@ -133,7 +174,8 @@ impl Tally {
         self.scans += other.scans;
         self.motor_scans += other.motor_scans;
         self.work_by_command += other.work_by_command;
-        self.unsure += other.unsure;
+        self.both_open.add(&other.both_open);
+        self.both_closed.add(&other.both_closed);
         self.pretended += other.pretended;
         self.unsanctioned += other.unsanctioned;
         self.pulses += other.pulses;
@@ -145,7 +187,6 @@ impl Tally {
         self.local += other.local;
         self.reset += other.reset;
         self.no_supply += other.no_supply;
-        self.switch_fault += other.switch_fault;
     }
 }
 
@@ -183,8 +224,18 @@ impl fmt::Display for Tally {
         writeln!(
             f,
             "  readings               unsure:{} of them pretended:{} unsanctioned changes:{}",
-            self.unsure, self.pretended, self.unsanctioned
+            self.both_open.all() + self.both_closed.all(),
+            self.pretended,
+            self.unsanctioned
         )?;
+        for (title, kind) in [("both open", &self.both_open), ("both closed", &self.both_closed)] {
+            let Unsure { idle, idle_local: [formed, not_formed], under_way: [outside, local] } = kind;
+            writeln!(
+                f,
+                "  {title:<22} idle:{idle} in local mode with flags:{formed} without:{not_formed} \
+                 under way:{outside} in local mode:{local}"
+            )?;
+        }
         writeln!(
             f,
             "  outputs                pulses:{} held:{} dropped by time:{} by overdue:{} by confirming:{}",
@@ -198,7 +249,10 @@ impl fmt::Display for Tally {
         writeln!(
             f,
             "  motor scans with       local mode:{} Reset:{} no supply:{} switch fault:{}",
-            self.local, self.reset, self.no_supply, self.switch_fault
+            self.local,
+            self.reset,
+            self.no_supply,
+            self.both_open.faults() + self.both_closed.faults()
         )?;
         write!(f, "  refusals              ")?;
         for refusal in [1, 2, 3, 4, 5, 7, 8, 9, 10] {

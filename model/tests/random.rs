@@ -145,7 +145,10 @@ fn the_files_are_rich() {
     assert_ne!(story::file(5, 12), story::file(6, 12));
     let mut tally = Tally::default();
     for index in 0..5000 {
-        run_watched(&story::file(1, index), |_, result| tally.line(result));
+        run_watched(&story::file(1, index), |_, result| match story::is_long(index) {
+            true => tally.refusal(result),
+            false => tally.line(result),
+        });
     }
     for refusal in [1, 2, 3, 4, 5, 7, 8, 9, 10] {
         assert!(tally.refused[refusal] >= 15, "refusal {refusal}: {}", tally.refused[refusal]);
@@ -158,6 +161,10 @@ fn the_files_are_rich() {
         assert!(command == 0 || tally.displaced[command] > 100);
     }
     assert!(tally.acknowledged.iter().chain(&tally.modes).chain(&tally.dropped).all(|count| *count > 300));
+    for unsure in [tally.both_open, tally.both_closed] {
+        assert!(unsure.idle > 10_000, "{unsure:?}");
+        assert!(unsure.idle_local.iter().chain(&unsure.under_way).all(|count| *count > 500), "{unsure:?}");
+    }
 }
 
 #[test]
