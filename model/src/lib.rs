@@ -1,9 +1,9 @@
 //! A second model of the motor bench, to run the bench program against.
 //!
 //! It was written from the paper "The motor block of the certificate bench"
-//! and the asks that change it, apart from the proved code and without sight
-//! of it. It shares no table, no type and no text with that code, so that a
-//! slip on one side shows as a difference between the prints.
+//! and the change requests, apart from the proved code and without sight of
+//! it. It shares no source with that code, so that a slip on one side shows
+//! as a difference between the prints.
 //!
 //! * [`record`]: a motor's record as plain numbers, with its ranges;
 //! * [`rules`]: the ten steps of one scan, in named values instead of bits;

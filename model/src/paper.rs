@@ -1,5 +1,5 @@
-//! The sheets of the paper, those with word 48 as ask 1 has them, and others
-//! worked by hand.
+//! The sheets of the paper, those with word 48 as change request 1 has
+//! them, and others worked by hand.
 
 /// What a sheet marks.
 #[derive(Clone, Debug)]

@@ -1,5 +1,5 @@
 //! Edge cases of the ten steps, each with the sentence it rests on; those of
-//! ask 1 after step 5.
+//! change request 1 after step 5.
 
 use motor_model::record::Record;
 use motor_model::rules::{scan_one, scan_table};
@@ -259,10 +259,10 @@ fn switch_fault_and_commands() {
     assert_eq!((m.command, m.flags), (7, 2));
 }
 
-// Ask 1: both open or both closed
+// Change request 1: both open or both closed
 
 /// Flag 14 stands with flag 1 when both switches are closed, never when both
-/// are open, and goes with the next reading, whatever it is.
+/// are open, and follows each next reading.
 #[test]
 fn both_open_or_both_closed() {
     let list = [(0, 2), (ON, 0), (OFF, 0), (ON | OFF, FLAG_14 + 2)];
@@ -384,7 +384,7 @@ fn both_closed_bars_no_more_than_both_open() {
             assert_eq!(play(&mut usual(), &[switches | word]).command, number);
         }
     }
-    let mut lent = Record { flags: FLAG_14 + 2, ..usual() };
+    let mut lent = Record { flags: FLAG_14, ..usual() };
     assert_eq!(play(&mut lent, &[OFF | RESERVE]).mode, 1);
 }
 

@@ -13,7 +13,7 @@ use Rattle.rules.specs.declared.Settings.{Settings}
 use Rattle.rules.specs.declared.Status.{Status}
 use Rattle.rules.specs.declared.Reading.{Reading}
 use Rattle.rules.specs.Record.{no-command, no-end, end-displaced, end-overdue, overdueFlag, idle, freshStatus, withMode, withPositions, withCommand, withFlags, withPrevious}
-use Rattle.rules.specs.Steps.{reading, confirms, confirmed, overdue, ended, end4, flags4, status1, status2, status4, putFlag, status5, status6, flags7, status7, chosen, displaces, starts, issues, issued, flags9, issueStatus, status9, status10, status1to6, status7to10}
+use Rattle.rules.specs.Steps.{reading, confirms, confirmed, overdue, ended, end4, flags4, status1, status2, status4, status5, status6, status7, chosen, displaces, starts, issues, issued, issueStatus, status9, status10, status1to6, status7to10}
 use Rattle.rules.specs.Scans.{Input}
 use Rattle.rules.proofs.Range.{issued-fits}
 use Rattle.rules.proofs.Flags.{put-keeps, keeps7, keeps9}

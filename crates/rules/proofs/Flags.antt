@@ -1,7 +1,6 @@
--- What a scan does to single flags. Flag 14 stands after a scan exactly if flag 1 does and the scan's switches are both closed.
--- Assumes nothing.
+-- What a scan does to single flags, flag 14 above all. Assumes nothing.
 use Prim.Native.Nat.{ℕ, _+_, _≤_, _<_}
-use mathlib.Core.Path.{_≡_, refl, sym, ap, ap₂, _∙_}
+use mathlib.Core.Path.{_≡_, refl, sym, ap, _∙_}
 use mathlib.Core.Logic.{_≢_, _⊎_, inl, inr}
 use mathlib.Core.Bool.{Bool, true, false, _&&_}
 use native.Mathlib.Omega.{arith}
@@ -14,15 +13,14 @@ use Rattle.rules.specs.declared.Status.{Status}
 use Rattle.rules.specs.declared.Motor.{Motor}
 use Rattle.rules.specs.declared.Reading.{Reading}
 use Rattle.rules.specs.Record.{flag, withMode, withCommand, withFlags, withPrevious, withStatus}
-use Rattle.rules.specs.Steps.{reading, step3, step4, switchFault, bothClosed, closedFault, putFlag, status5, status6, flags7, status7, issued, flags9, issueStatus, issue, step9, status10, steps1to5, steps6to10, step}
+use Rattle.rules.specs.Steps.{reading, switchFault, bothClosed, closedFault, putFlag, status5, status6, flags7, status7, issued, flags9, issueStatus, issue, step9, status10, steps1to5, steps6to10, step}
+use Rattle.rules.proofs.Range.{either}
 
 -- ---- setting, clearing and putting
 
 -- a choice has the bit that both of its arms have
-pub if-keeps : (k : ℕ) (b : Bool) (x y : ℕ) {t : Bool} → isSet k x ≡ t → isSet k y ≡ t → isSet k (if b then x else y) ≡ t
-unfolding if_then_else_
-if-keeps k true x y p q = p
-if-keeps k false x y p q = q
+if-keeps : (k : ℕ) (b : Bool) (x y : ℕ) {t : Bool} → isSet k x ≡ t → isSet k y ≡ t → isSet k (if b then x else y) ≡ t
+if-keeps k b x y {t} = either (λ (n : ℕ). isSet k n ≡ t) b
 
 apart : {j k : ℕ} → j ≢ k → (k < j) ⊎ (j + 1 ≤ k)
 apart {j} {k} ne = go (ltb k j) refl
@@ -39,7 +37,7 @@ pub put-keeps : (j k : ℕ) (b : Bool) (w : ℕ) → j ≢ k → isSet k (putFla
 unfolding putFlag
 put-keeps j k b w ne = if-keeps k b _ _ (set-keeps j k w ne) (clear-one-keeps j k w ne)
 
-pub put-has : (k : ℕ) (b : Bool) (w : ℕ) → k < 32 → isSet k (putFlag k b w) ≡ b
+put-has : (k : ℕ) (b : Bool) (w : ℕ) → k < 32 → isSet k (putFlag k b w) ≡ b
 unfolding putFlag if_then_else_
 put-has k true w h = set-has k w h
 put-has k false w h = clear-has k w

@@ -24,7 +24,7 @@ use Rattle.rules.specs.Scans.{Input, scans, Steppable}
 
 -- ---- a choice has what both of its arms have
 
-either {ℓ} : {A : Type ℓ} (P : A → Type 0) (b : Bool) {x y : A} → P x → P y → P (if b then x else y)
+pub either {ℓ} : {A : Type ℓ} (P : A → Type 0) (b : Bool) {x y : A} → P x → P y → P (if b then x else y)
 unfolding if_then_else_
 either P true p q = p
 either P false p q = q

@@ -153,7 +153,7 @@ inputBit c =
     else 32
 
 -- Flag k: 0 no supply, 1 switch fault, 2 and 3 unsanctioned on and off, 4 on by LZ, 5 off by LZ, 6 off by SMA, 6+c command c overdue,
--- 14 both switches closed (request 1)
+-- 14 switch fault with both switches closed (change request 1)
 unfoldable pub flag : Status → ℕ → Bool
 flag v k = isSet k (v .flags)
 

@@ -99,7 +99,7 @@ paperSheets =
     ∷ sheet (wiring 193 0 0 300) (32 ∷ 4128 ∷ 32 ∷ []) (line 2 1 0 3 0 8192)
     -- words 32, 16 *
     ∷ sheet wired (32 ∷ 16 ∷ []) (line 2 2 0 0 0 4)
-    -- scan 1, word 48 *, OPS_2 28 *, 12; their flags are those of request 1
+    -- scan 1, word 48 *, OPS_2 28 *, 12; their flags are those of change request 1
     ∷ sheet wired (48 ∷ []) (line 2 0 0 0 0 16386)
     ∷ sheet (wiring 193 28 500 300) (48 ∷ []) (line 2 2 0 0 0 16386)
     ∷ sheet (wiring 193 12 500 300) (48 ∷ []) (line 2 1 0 0 0 16386)
@@ -161,7 +161,7 @@ ownSheets =
     ∷ sheet wired (0 ∷ 48 ∷ []) (flags ≔ 16386 ∷ [])
     ∷ sheet wired (48 ∷ 0 ∷ []) (flags ≔ 2 ∷ [])
     ∷ sheet wired (48 ∷ 32 ∷ []) (flags ≔ 0 ∷ [])
-    -- step 5: neither while a command is under way; both in the scan in which it ends
+    -- step 5: neither while a command is under way; both in the scan in which it ends overdue
     ∷ sheet wired (32 ∷ 4128 ∷ 48 ∷ []) (command ≔ 7 ∷ flags ≔ 0 ∷ [])
     ∷ sheet (wiring 193 0 0 300) (32 ∷ 4128 ∷ 48 ∷ []) (end ≔ 3 ∷ flags ≔ 24578 ∷ [])
     -- step 5: a switch fault is formed in local mode with OPS_2 bit 1, or with OPS_1 bit 2, only
@@ -272,7 +272,7 @@ ownSheets =
     ∷ []
 
 -- Our own, from a lent record that is in range and breaks the rules: idle sums stay; a pulse that is not of the direction of the overdue
--- command stays
+-- command stays; flag 14 is formed anew
 unfoldable pub lent : ℕ → ℕ → ℕ → ℕ → ℕ → Motor
 lent c time state run n =
     record {
@@ -297,7 +297,7 @@ lentSheets =
     ∷ flagsAfter 0 16384 32 0
     ∷ flagsAfter 0 16384 0 2
     ∷ flagsAfter 7 16384 48 0
-    ∷ flagsAfter 0 16386 50 0
+    ∷ flagsAfter 0 16384 50 0
     -- both closed, all flags lent: all but flag 0 stay, and with Reset flags 1 and 14
     ∷ flagsAfter 0 32767 48 32766
     ∷ flagsAfter 0 32767 65584 16386

@@ -1,5 +1,5 @@
 -- One scan of one motor: the paper's "One scan, in this order", a definition a step (letters and signs: see Record.antt). `statusN` and
--- `flagsN` are the status and the flags that step N leaves.
+-- `flagsN` are the status and the flags that step N leaves. What a change request altered bears its number (docs/CHANGES.md).
 -- Steps 1, 2, 5 to 8 and 10 go by the settings, the status and the input word alone, and so does what steps 4 and 9 do to the status: the
 -- book of commands shares them. It has no sums and no output, so it hands step 4 its own answer to whether the time is up.
 -- The switches are read once (`reading`); steps 2, 4 and 5 are handed what they read.
@@ -23,12 +23,12 @@ flags1 v word = if reset word then withoutBits 2 12 (v .flags) else v .flags
 unfoldable pub status1 : Status → ℕ → Status
 status1 v word = withFlags (withCommand v (v .command) no-end) (flags1 v word)
 
--- Step 2. OPS_1 bit 0 = 0: On switch 1 means On, 0 means Off, always sure. Bit 0 = 1: sure if the two switches differ; if not, the
--- reading says whether both are open (0) or both closed (1) (request 1).
+-- Step 2. OPS_1 bit 0 = 0: On switch 1 means On, 0 means Off, always sure. Bit 0 = 1: sure if the two switches differ; if not,
+-- both are open, or both closed, and the reading says which (change request 1).
 unfoldable pub readOnSwitch : ℕ → Reading
 readOnSwitch word = if onSwitch word then On else Off
 
--- by the On switch and the Off switch, true where closed
+-- by the On switch and the Off switch: 1, true, is closed
 unfoldable pub pairRead : Bool → Bool → Reading
 pairRead true false = On
 pairRead false true = Off
@@ -50,6 +50,12 @@ positionRead BothClosed = unsure
 
 unfoldable pub isSure : Reading → Bool
 isSure r = not (eqb (positionRead r) unsure)
+
+unfoldable pub bothClosed : Reading → Bool
+bothClosed Off = false
+bothClosed On = false
+bothClosed BothOpen = false
+bothClosed BothClosed = true
 
 -- A sure change between Off and On from the last sure position, with no command under way as the scan began (steps 1 and 2 leave the
 -- command alone), sets flag 2, to On, or 3, to Off.
@@ -151,13 +157,7 @@ supplyFault s word = faultsFormed s word && noSupply word && OPS₁ s 1
 unfoldable pub switchFault : Settings → Status → ℕ → Reading → Bool
 switchFault s v word r = faultsFormed s word && not (isSure r) && idle v
 
--- Flag 14 (request 1): flag 1 because both switches are closed.
-unfoldable pub bothClosed : Reading → Bool
-bothClosed Off = false
-bothClosed On = false
-bothClosed BothOpen = false
-bothClosed BothClosed = true
-
+-- Flag 14: flag 1, and both switches are closed (change request 1).
 unfoldable pub closedFault : Settings → Status → ℕ → Reading → Bool
 closedFault s v word r = switchFault s v word r && bothClosed r
 

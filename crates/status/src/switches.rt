@@ -33,7 +33,7 @@ pub fn read_on_switch(word: u32) -> Reading
     }
 }
 
-// The reading of an On and an Off switch: sure if they differ, otherwise which of two faults it is.
+// The reading of an On and an Off switch: sure if they differ, otherwise both open or both closed.
 pub fn read_pair(on: bool, off: bool) -> Reading
     ensures { λ r. ⌜ r ≡ pairRead on off ⌝ }
 {
