@@ -13,7 +13,7 @@ use Rattle.rules.specs.declared.Status.{Status}
 use Rattle.rules.specs.declared.Motor.{Motor}
 use Rattle.rules.specs.declared.Reading.{Reading}
 use Rattle.rules.specs.Record.{flag, withMode, withCommand, withFlags, withPrevious, withStatus}
-use Rattle.rules.specs.Steps.{reading, switchFault, bothClosed, closedFault, putFlag, status5, status6, flags7, status7, issued, flags9, issueStatus, issue, step9, status10, steps1to5, steps6to10, step}
+use Rattle.rules.specs.Steps.{reading, supplyFault, switchFault, bothClosed, closedFault, putFlag, status5, status6, flags7, status7, issued, flags9, issueStatus, issue, step9, status10, steps1to5, steps6to10, step}
 use Rattle.rules.proofs.Range.{either}
 
 -- ---- setting, clearing and putting
@@ -91,7 +91,7 @@ keeps6to10 m word k o = go (eqb (issued (m .settings) v word) 0)
 formed : (s : Settings) (v : Status) (word : ℕ) (r : Reading) → flag (status5 s v word r) 14 ≡ (flag (status5 s v word r) 1 && bothClosed r)
 unfolding flag status5 withFlags closedFault
 formed s v word r =
-    let f = putFlag 1 (switchFault s v word r) (putFlag 0 _ (v .flags)) in
+    let f : ℕ = putFlag 1 (switchFault s v word r) (putFlag 0 (supplyFault s word) (v .flags)) in
     let one : isSet 1 (putFlag 14 (closedFault s v word r) f) ≡ switchFault s v word r = put-keeps 14 1 _ f (λ e. omega arith) ∙ put-has 1 _ _ (lit< tt) in
     put-has 14 _ f (lit< tt) ∙ ap (λ (b : Bool). b && bothClosed r) (sym one)
 
