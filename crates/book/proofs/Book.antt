@@ -13,6 +13,7 @@ use Rattle.rules.specs.declared.Motor.{Motor}
 use Rattle.rules.specs.Record.{end-displaced, idle, fresh, withMode, withPositions, withCommand, withFlags, withPrevious, withStatus}
 use Rattle.rules.specs.Steps.{status1, reading, status2, overdue, ended, end4, flags4, status4, status5, status6, status7, status9, issueStatus, status10, issued, step3, timeUp, step4, issue, step9, status1to6, status7to10, steps1to5, steps6to10, step}
 use Rattle.rules.specs.Scans.{Input}
+use Rattle.rules.proofs.Flags.{step9-status}
 use Rattle.book.specs.Log.{Log, none, _▸_, count}
 use Rattle.book.specs.History.{recordOf}
 use Rattle.book.specs.Book.{Book, since, isUp, book1to6, bookScan, bookOf}
@@ -35,14 +36,6 @@ unfolding step9 if_then_else_ issue
 step9-settings m c = go (eqb c 0)
   where
     go : (b : Bool) → (if b then m else issue m c) .settings ≡ m .settings
-    go true = refl
-    go false = refl
-
-step9-status : (m : Motor) (c : ℕ) → step9 m c .status ≡ status9 (m .settings) (m .status) c
-unfolding step9 status9 if_then_else_ issue
-step9-status m c = go (eqb c 0)
-  where
-    go : (b : Bool) → (if b then m else issue m c) .status ≡ (if b then m .status else issueStatus (m .settings) (m .status) c)
     go true = refl
     go false = refl
 

@@ -12,11 +12,11 @@ use Rattle.words.proofs.Laws.{if-lt, set-has}
 use Rattle.rules.specs.declared.Settings.{Settings}
 use Rattle.rules.specs.declared.Status.{Status}
 use Rattle.rules.specs.declared.Reading.{Reading}
-use Rattle.rules.specs.Record.{no-command, no-end, end-displaced, end-overdue, overdueFlag, idle, freshStatus, withMode, withPositions, withCommand, withFlags, withPrevious}
-use Rattle.rules.specs.Steps.{reading, confirms, confirmed, overdue, ended, end4, flags4, status1, status2, status4, status5, status6, status7, chosen, displaces, starts, issues, issued, issueStatus, status9, status10, status1to6, status7to10}
+use Rattle.rules.specs.Record.{no-command, no-end, end-displaced, end-overdue, flag, overdueFlag, idle, freshStatus, withMode, withPositions, withCommand, withFlags}
+use Rattle.rules.specs.Steps.{reading, confirms, confirmed, overdue, ended, end4, flags4, status1, status2, status4, status5, status6, chosen, displaces, starts, issues, issued, status1to6, status7to10}
 use Rattle.rules.specs.Scans.{Input}
 use Rattle.rules.proofs.Range.{issued-fits}
-use Rattle.rules.proofs.Flags.{put-keeps, keeps7, keeps9}
+use Rattle.rules.proofs.Flags.{keeps5, keeps7to10}
 use Rattle.book.specs.Log.{Log, none, _▸_, _⧺_, count}
 use Rattle.book.specs.Book.{isUp, book1to6, bookScan, bookOf}
 use Rattle.book.specs.Claim.{UnderWay, Issued, chosenIn, fate, Quiet, Ends}
@@ -85,28 +85,13 @@ flag4 v r up l late = rw late (set-has (6 + v .command) (v .flags) (omega arith)
 flag-after : (s : Settings) (v : Status) (word : ℕ) (up : Bool) → v .command ≢ 0 → v .command < 8
     → overdue (status2 s (status1 v word) (reading s word)) (reading s word) up ≡ true
     → isSet (overdueFlag (v .command)) (status7to10 s (status1to6 s v word up) word .flags) ≡ true
-unfolding status7to10 status10 withPrevious status9 issueStatus status7 status1to6 status6 status5 status4 status2 status1 withFlags withMode withCommand withPositions if_then_else_ overdueFlag
-flag-after s v word up ne lt late = go (eqb (issued s (status1to6 s v word up) word) 0)
-  where
-    k : ℕ
-    k = overdueFlag (v .command)
-
-    above : 6 < k
-    above = omega arith
-
-    to6 : isSet k (status1to6 s v word up .flags) ≡ true
-    to6 =
-        put-keeps 14 k _ _ (λ e. omega arith) ∙ put-keeps 1 k _ _ (λ e. omega arith) ∙ put-keeps 0 k _ _ (λ e. omega arith)
-        ∙ flag4 (status2 s (status1 v word) (reading s word)) (reading s word) up lt late
-
-    at7 : isSet k (status7 s (status1to6 s v word up) word .flags) ≡ true
-    at7 = keeps7 s (status1to6 s v word up) word k (inr above) ∙ to6
-
-    go : (b : Bool)
-        → isSet k ((if b then status7 s (status1to6 s v word up) word else issueStatus s (status7 s (status1to6 s v word up) word) (issued s (status1to6 s v word up) word)) .flags)
-        ≡ true
-    go true = at7
-    go false = keeps9 _ k _ (inr above) ∙ at7
+unfolding flag status1to6 status6 status2 status1 withFlags withMode withCommand withPositions overdueFlag
+flag-after s v word up ne lt late =
+    let k : ℕ = overdueFlag (v .command) in
+    let r = reading s word in
+    let v₂ = status2 s (status1 v word) r in
+    keeps7to10 s (status1to6 s v word up) word k (inr (omega arith))
+    ∙ keeps5 s (status4 v₂ r up) word r k (λ e. omega arith) (λ e. omega arith) (λ e. omega arith) ∙ flag4 v₂ r up lt late
 
 -- ---- the book's numbers
 

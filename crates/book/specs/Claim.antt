@@ -2,7 +2,7 @@
 use Prim.Native.Nat.{ℕ, suc, _+_, _*_, _≤_, max}
 use mathlib.Core.Path.{_≡_}
 use mathlib.Core.Logic.{_↔_, _≢_, _⊎_}
-use mathlib.Core.Bool.{Bool, true, false, _&&_}
+use mathlib.Core.Bool.{true, false, _&&_}
 use Rattle.words.specs.Word.{if_then_else_, isSet}
 use Rattle.rules.specs.declared.Settings.{Settings}
 use Rattle.rules.specs.Record.{no-command, no-end, end-confirmed, end-displaced, end-overdue, flag, overdueFlag, idle}
@@ -10,7 +10,7 @@ use Rattle.rules.specs.Steps.{reading, confirms, bothClosed, chosen, displaces,
 use Rattle.rules.specs.Scans.{Input}
 use Rattle.book.specs.Log.{Log, none, _▸_, _⧺_, count}
 use Rattle.book.specs.History.{Entry, inputOf, counts, recordAfter, history, recordOf}
-use Rattle.book.specs.Book.{Book, since, isUp, book1to6, bookOf}
+use Rattle.book.specs.Book.{since, isUp, book1to6, bookOf}
 
 -- A command is issued, under way or ended as the book has it: after h the command c, issued in scan i, is under way.
 pub record UnderWay (s : Settings) (c i : ℕ) (h : Log Input) : Type 0 where

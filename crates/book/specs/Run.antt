@@ -1,6 +1,6 @@
 -- A whole table run through a list of scans, each of all its motors or of one: what each motor of it meets is a list of entries, so the
 -- claim is one about every motor of a real table that starts fresh.
-use Prim.Native.Nat.{ℕ, suc, _<_}
+use Prim.Native.Nat.{ℕ, suc}
 use mathlib.Core.Path.{_≡_}
 use mathlib.Core.List.{List}
 use lib.Dec.{eqb}

@@ -1,7 +1,7 @@
 -- Every motor of a bench that began empty is one that demand 3 follows: it was fresh when its M line added it, and each accepted S line
 -- since is a scan of the whole table with the words that the motors held. Assumes nothing.
 use Prim.Native.Nat.{ℕ, zero, suc, _<_}
-use mathlib.Core.Path.{_≡_, refl, ap}
+use mathlib.Core.Path.{_≡_, refl, sym, ap, _∙_}
 use mathlib.Core.Bool.{Bool, true, false}
 use mathlib.Core.List.{List, [], _∷_, _++_}
 use native.Mathlib.Omega.{arith}
@@ -18,6 +18,9 @@ use Rattle.book.proofs.Run.{followed}
 use Rattle.sheet.specs.declared.Request.{Request}
 use Rattle.sheet.specs.declared.Request.the-variants.{Motor as M, Input as I, Scan as S, Refused}
 use Rattle.interpreter.specs.State.{State, emptyState, nextNumber, withMotor, withWords, withWord, withScan, refusalFor, changed, stateAfter, statesAfter}
+use Rattle.interpreter.specs.Advance.{Place, Through}
+use Rattle.interpreter.specs.Advance.Through.{none as none-taken, accepted, refused, ended}
+use Rattle.interpreter.proofs.ActLaws.{accepted as is-changed}
 use Rattle.interpreter.proofs.Shape.{motor-first}
 
 -- ---- what the accepted requests say of the motors: the settings of those that were added, and the scans
@@ -111,3 +114,25 @@ pub each-followed : (rs : List Request) (j : ℕ) → j < length (settingsOf rs)
 each-followed rs j h =
     let ss = settingsOf rs in
     followed (freshOnes ss) j (getD ss j unset) (omega (arith, length-fresh ss)) (fresh-at ss j h) (ordersOf rs)
+
+-- ---- so it is of a bench at any place that the lines of a file lead to
+
+pub record Reached (t : State) : Type 0 where
+  pub requests : List Request
+  pub state : t ≡ statesAfter emptyState requests
+
+one-request-more : (t : State) (rs : List Request) (r : Request) → statesAfter t (rs ++ (r ∷ [])) ≡ stateAfter (statesAfter t rs) r
+unfolding statesAfter
+one-request-more t [] r = refl
+one-request-more t (q ∷ rs) r = one-request-more (stateAfter t q) rs r
+
+pub reached : {file : List ℕ} {from p : Place} {piece : List ℕ} → Reached (from .state) → Through file from piece p → Reached (p .state)
+reached a none-taken = a
+reached a (accepted {r = r} t found h) =
+    let b = reached a t in
+    record {
+      requests = b .requests ++ (r ∷ []);
+      state = sym (is-changed _ r h) ∙ ap (λ (u : State). stateAfter u r) (b .state) ∙ sym (one-request-more emptyState (b .requests) r);
+    }
+reached a (refused t found h) = reached a t
+reached a (ended t within found) = reached a t

@@ -53,7 +53,7 @@ pub record RefusedScan (file : List ℕ) (s : Sitting) (period : ℕ) : Type 0 w
   pub here : nextAt file (s .at) ≡ Taken (S period) next
   pub refused : refusalFor (viewOf (s .bench)) (S period) ≡ 0 → ⊥
 
--- One line, or the end of the file: what it prints is put.
+-- A step to a further place, by a line or the end of the file: what it prints is put, and is no more than one line may print.
 pub record Advance (file : List ℕ) (s : Sitting) (out : List ℕ) (to : ℕ) (after : List ℕ) (r : Advanced) : Type 0 where
   pub piece : List ℕ
   pub through : Through file (placeOf s) piece (placeOf (r .sitting))

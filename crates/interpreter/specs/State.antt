@@ -84,6 +84,6 @@ unfoldable pub statesAfter : State → List Request → State
 statesAfter t [] = t
 statesAfter t (r ∷ rs) = statesAfter (stateAfter t r) rs
 
--- The state that a bench holds: of its arrays, the first `count` elements
+-- The state that a bench holds: of its arrays, the first `count` elements. Nothing depends on what lies past them.
 abbrev pub viewOf : Bench → State
 viewOf b = record { motors = take (b .count) (b .motors); words = take (b .count) (b .words); scans = b .scans }

@@ -1,5 +1,6 @@
 // The bench: its state by value, what a line of a file does to it, and the print of a whole file, line by line. The meanings are
-// definitions in specs/; every open function is equal to its definition on any input.
+// definitions in specs/. Open functions are equal to them on any input, but for what lies past the motors of a bench (`viewOf`) and for
+// how many lines `fill` takes.
 mod acts;
 mod course;
 mod inputs;

@@ -7,7 +7,7 @@ use Rattle.words.specs.Word.{if_then_else_}
 use Rattle.sheet.specs.Split.{LF, comma}
 use Rattle.report.specs.declared.Row.{Row}
 
--- The decimal digits of a number below 10 ^ k, without a leading zero
+-- The decimal digits of a number below 10 ^ k, k at least 1, without a leading zero
 unfoldable pub digitsOf : ℕ → ℕ → List ℕ
 digitsOf zero n = []
 digitsOf (suc k) n = if ltb n 10 then (48 + n) ∷ [] else digitsOf k (n / 10) ++ ((48 + n % 10) ∷ [])

@@ -4,17 +4,15 @@ use mathlib.Core.Path.{_≡_, refl, sym, ap, _∙_}
 use mathlib.Core.Logic.{_≢_, _⊎_, inl, inr}
 use mathlib.Core.Bool.{Bool, true, false, _&&_}
 use native.Mathlib.Omega.{arith}
-use lib.Dec.{eqb, ltb, lit<, lit≤}
-use borrow.Author.Tests.{ltb-true, ltb-false}
-use Rattle.words.specs.Word.{if_then_else_, isSet, withoutBit}
-use Rattle.words.proofs.Laws.{set-has, set-keeps, clear-has, clear-keeps}
+use lib.Dec.{eqb, lit<, lit≤}
+use Rattle.words.specs.Word.{if_then_else_, isSet}
+use Rattle.words.proofs.Laws.{set-has, set-keeps, clear-has, clear-keeps, clear-one-keeps, either}
 use Rattle.rules.specs.declared.Settings.{Settings}
 use Rattle.rules.specs.declared.Status.{Status}
 use Rattle.rules.specs.declared.Motor.{Motor}
 use Rattle.rules.specs.declared.Reading.{Reading}
 use Rattle.rules.specs.Record.{flag, withMode, withCommand, withFlags, withPrevious, withStatus}
-use Rattle.rules.specs.Steps.{reading, supplyFault, switchFault, bothClosed, closedFault, putFlag, status5, status6, flags7, status7, issued, flags9, issueStatus, issue, step9, status10, steps1to5, steps6to10, step}
-use Rattle.rules.proofs.Range.{either}
+use Rattle.rules.specs.Steps.{reading, supplyFault, switchFault, bothClosed, closedFault, putFlag, status5, status6, flags7, status7, flags9, issueStatus, status9, issue, step9, status10, status7to10, steps1to5, steps6to10, step}
 
 -- ---- setting, clearing and putting
 
@@ -22,18 +20,7 @@ use Rattle.rules.proofs.Range.{either}
 if-keeps : (k : ℕ) (b : Bool) (x y : ℕ) {t : Bool} → isSet k x ≡ t → isSet k y ≡ t → isSet k (if b then x else y) ≡ t
 if-keeps k b x y {t} = either (λ (n : ℕ). isSet k n ≡ t) b
 
-apart : {j k : ℕ} → j ≢ k → (k < j) ⊎ (j + 1 ≤ k)
-apart {j} {k} ne = go (ltb k j) refl
-  where
-    go : (b : Bool) → ltb k j ≡ b → (k < j) ⊎ (j + 1 ≤ k)
-    go true e = inl (ltb-true k j e)
-    go false e = inr (let h = ltb-false k j e in omega arith)
-
-clear-one-keeps : (j k w : ℕ) → j ≢ k → isSet k (withoutBit j w) ≡ isSet k w
-unfolding withoutBit
-clear-one-keeps j k w ne = clear-keeps j 1 k w (apart ne)
-
-pub put-keeps : (j k : ℕ) (b : Bool) (w : ℕ) → j ≢ k → isSet k (putFlag j b w) ≡ isSet k w
+put-keeps : (j k : ℕ) (b : Bool) (w : ℕ) → j ≢ k → isSet k (putFlag j b w) ≡ isSet k w
 unfolding putFlag
 put-keeps j k b w ne = if-keeps k b _ _ (set-keeps j k w ne) (clear-one-keeps j k w ne)
 
@@ -41,6 +28,12 @@ put-has : (k : ℕ) (b : Bool) (w : ℕ) → k < 32 → isSet k (putFlag k b w) 
 unfolding putFlag if_then_else_
 put-has k true w h = set-has k w h
 put-has k false w h = clear-has k w
+
+-- ---- step 5 changes no flags but 0, 1 and 14
+
+pub keeps5 : (s : Settings) (v : Status) (word : ℕ) (r : Reading) (k : ℕ) → 0 ≢ k → 1 ≢ k → 14 ≢ k → flag (status5 s v word r) k ≡ flag v k
+unfolding flag status5 withFlags
+keeps5 s v word r k n₀ n₁ n₁₄ = put-keeps 14 k _ _ n₁₄ ∙ put-keeps 1 k _ _ n₁ ∙ put-keeps 0 k _ _ n₀
 
 -- ---- steps 6 to 10 change no flags but 4, 5 and 6
 
@@ -55,13 +48,13 @@ beside : {k : ℕ} → Other k → (k < 5) ⊎ (5 + 2 ≤ k)
 beside (inl h) = inl (omega arith)
 beside (inr h) = inr (omega arith)
 
-pub keeps7 : (s : Settings) (v : Status) (word k : ℕ) → Other k → isSet k (flags7 s v word) ≡ isSet k (v .flags)
+keeps7 : (s : Settings) (v : Status) (word k : ℕ) → Other k → isSet k (flags7 s v word) ≡ isSet k (v .flags)
 unfolding flags7
 keeps7 s v word k o =
     let off = if-keeps k _ _ _ (clear-keeps 5 2 k (v .flags) (beside o)) refl in
     if-keeps k _ _ _ (clear-one-keeps 4 k _ (other-ne 4 (lit≤ tt) (lit≤ tt) o) ∙ off) off
 
-pub keeps9 : (c k f : ℕ) → Other k → isSet k (flags9 c f) ≡ isSet k f
+keeps9 : (c k f : ℕ) → Other k → isSet k (flags9 c f) ≡ isSet k f
 unfolding flags9
 keeps9 c k f o =
     let ne : (j : ℕ) → 4 ≤ j → j ≤ 6 → j ≢ k = λ j a b. other-ne j a b o in
@@ -69,22 +62,26 @@ keeps9 c k f o =
     if-keeps k _ _ _ (set-keeps 4 k _ (ne 4 (lit≤ tt) (lit≤ tt)) ∙ g)
     (if-keeps k _ _ _ (set-keeps 5 k _ (ne 5 (lit≤ tt) (lit≤ tt)) ∙ g) (if-keeps k _ _ _ (set-keeps 6 k _ (ne 6 (lit≤ tt) (lit≤ tt)) ∙ g) g))
 
-keeps6to10 : (m : Motor) (word k : ℕ) → Other k → flag (steps6to10 m word .status) k ≡ flag (m .status) k
-unfolding steps6to10 step9 issue issueStatus status10 status7 status6 withStatus withPrevious withFlags withMode withCommand flag if_then_else_
-keeps6to10 m word k o = go (eqb (issued (m .settings) v word) 0)
+-- as the book of commands goes through them, and the record
+pub keeps7to10 : (s : Settings) (v : Status) (word k : ℕ) → Other k → flag (status7to10 s v word) k ≡ flag v k
+unfolding flag status7to10 status10 status9 issueStatus status7 withPrevious withFlags withMode withCommand
+keeps7to10 s v word k o =
+    let at7 = keeps7 s v word k o in
+    either (λ (x : Status). isSet k (x .flags) ≡ isSet k (v .flags)) _ at7 (keeps9 _ k _ o ∙ at7)
+
+pub step9-status : (m : Motor) (c : ℕ) → step9 m c .status ≡ status9 (m .settings) (m .status) c
+unfolding step9 status9 if_then_else_ issue
+step9-status m c = go (eqb c 0)
   where
-    v : Status
-    v = status6 (m .settings) (m .status) word
+    go : (b : Bool) → (if b then m else issue m c) .status ≡ (if b then m .status else issueStatus (m .settings) (m .status) c)
+    go true = refl
+    go false = refl
 
-    n : Motor
-    n = withStatus m (status7 (m .settings) v word)
-
-    at7 : isSet k (flags7 (m .settings) v word) ≡ isSet k (m .status .flags)
-    at7 = keeps7 (m .settings) v word k o
-
-    go : (b : Bool) → isSet k ((if b then n else issue n (issued (m .settings) v word)) .status .flags) ≡ isSet k (m .status .flags)
-    go true = at7
-    go false = keeps9 _ k _ o ∙ at7
+keeps6to10 : (m : Motor) (word k : ℕ) → Other k → flag (steps6to10 m word .status) k ≡ flag (m .status) k
+unfolding steps6to10 status7to10 withStatus
+keeps6to10 m word k o =
+    ap (λ (v : Status). flag (status10 v word) k) (step9-status _ _)
+    ∙ keeps7to10 (m .settings) (status6 (m .settings) (m .status) word) word k o ∙ unfold status6 withMode flag in refl
 
 -- ---- flag 14
 

@@ -10,7 +10,7 @@ use native.Mathlib.Omega.{arith}
 use lib.Dec.{eqb, leb, lit<, lit≤}
 use borrow.Author.Tests.{leb-true, leb-false, le-leb, eqb-true}
 use Rattle.words.specs.Word.{if_then_else_, withBit, withoutBit, withoutBits}
-use Rattle.words.proofs.Laws.{with-lt, without-le, and-true}
+use Rattle.words.proofs.Laws.{either, if-lt, with-lt, without-le, and-true}
 use Rattle.rules.specs.declared.Settings.{Settings}
 use Rattle.rules.specs.declared.Status.{Status}
 use Rattle.rules.specs.declared.Output.{Output}
@@ -21,16 +21,6 @@ use Rattle.rules.specs.Record.{OPS₁, commands, idle, ownOutput, overdu
 use Rattle.rules.specs.Steps.{flags1, status1, reading, positionRead, flags2, pretended, status2, running, step3, confirmed, overdue, ended, end4, flags4, status4, timeUp, pulseOver, drops, step4, putFlag, status5, modeAsked, status6, flags7, status7, chosen, firstOf, issued, flags9, issueStatus, raised, withoutOpposite, output9, issue, step9, status10, steps1to5, steps6to10, step}
 use Rattle.rules.specs.Refusals.{mostFlags, settingsInRange, statusInRange, outputInRange, inRange, periodOk, wordOk, oneRefusal, oneAfter}
 use Rattle.rules.specs.Scans.{Input, scans, Steppable}
-
--- ---- a choice has what both of its arms have
-
-pub either {ℓ} : {A : Type ℓ} (P : A → Type 0) (b : Bool) {x y : A} → P x → P y → P (if b then x else y)
-unfolding if_then_else_
-either P true p q = p
-either P false p q = q
-
-under : {n : ℕ} (b : Bool) {x y : ℕ} → x < n → y < n → (if b then x else y) < n
-under {n} b = either (λ (k : ℕ). k < n) b
 
 -- ---- the ranges, as bounds
 
@@ -83,13 +73,13 @@ clear-one k h = clear k 1 h
 
 put : (k : ℕ) (b : Bool) {f : ℕ} → k < flagCount → f < 2 ^ flagCount → putFlag k b f < 2 ^ flagCount
 unfolding putFlag
-put k b h l = under b (set k h l) (clear-one k l)
+put k b h l = if-lt b (set k h l) (clear-one k l)
 
 -- ---- the steps
 
 keeps1 : (v : Status) (word : ℕ) → Fits v → Fits (status1 v word)
 unfolding status1 flags1
-keeps1 v word f = with-flags (with-command f (f .command) (lit< tt)) (under _ (clear 2 12 (f .flags)) (f .flags))
+keeps1 v word f = with-flags (with-command f (f .command) (lit< tt)) (if-lt _ (clear 2 12 (f .flags)) (f .flags))
 
 read-fits : (r : Reading) → positionRead r < 3
 unfolding positionRead
@@ -102,14 +92,14 @@ keeps2 : (s : Settings) (v : Status) (r : Reading) → Fits v → Fits (status2 
 unfolding status2 flags2 pretended
 keeps2 s v r f =
     with-flags
-    (with-positions f (under _ (read-fits _) (f .sure)) (under _ (read-fits _) (under _ (lit< tt) (under _ (f .sure) (under _ (lit< tt) (lit< tt))))))
-    (under _ (set 2 (lit< tt) (f .flags)) (under _ (set 3 (lit< tt) (f .flags)) (f .flags)))
+    (with-positions f (if-lt _ (read-fits _) (f .sure)) (if-lt _ (read-fits _) (if-lt _ (lit< tt) (if-lt _ (f .sure) (if-lt _ (lit< tt) (lit< tt))))))
+    (if-lt _ (set 2 (lit< tt) (f .flags)) (if-lt _ (set 3 (lit< tt) (f .flags)) (f .flags)))
 
 keeps4 : (v : Status) (r : Reading) (up : Bool) → Fits v → Fits (status4 v r up)
 unfolding status4 end4 flags4 overdueFlag
 keeps4 v r up f =
-    with-flags (with-command f (under _ (lit< tt) (f .command)) (under _ (lit< tt) (under _ (lit< tt) (f .end))))
-    (under _ (let c = f .command in set (6 + v .command) (omega arith) (f .flags)) (f .flags))
+    with-flags (with-command f (if-lt _ (lit< tt) (f .command)) (if-lt _ (lit< tt) (if-lt _ (lit< tt) (f .end))))
+    (if-lt _ (let c = f .command in set (6 + v .command) (omega arith) (f .flags)) (f .flags))
 
 keeps5 : (s : Settings) (v : Status) (word : ℕ) (r : Reading) → Fits v → Fits (status5 s v word r)
 unfolding status5
@@ -117,28 +107,28 @@ keeps5 s v word r f = with-flags f (put 14 _ (lit< tt) (put 1 _ (lit< tt) (put 0
 
 keeps6 : (s : Settings) (v : Status) (word : ℕ) → Fits v → Fits (status6 s v word)
 unfolding status6 modeAsked
-keeps6 s v word f = with-mode f (under _ (under _ (lit< tt) (under _ (lit< tt) (lit< tt))) (f .mode))
+keeps6 s v word f = with-mode f (if-lt _ (if-lt _ (lit< tt) (if-lt _ (lit< tt) (lit< tt))) (f .mode))
 
 keeps7 : (s : Settings) (v : Status) (word : ℕ) → Fits v → Fits (status7 s v word)
 unfolding status7 flags7
 keeps7 s v word f =
-    let g = under _ (clear 5 2 (f .flags)) (f .flags) in
-    with-flags f (under _ (clear-one 4 g) g)
+    let g = if-lt _ (clear 5 2 (f .flags)) (f .flags) in
+    with-flags f (if-lt _ (clear-one 4 g) g)
 
 pub issued-fits : (s : Settings) (v : Status) (word : ℕ) → issued s v word < 8
 unfolding issued chosen firstOf commands
 issued-fits s v word =
-    under _
-    (under _ (lit< tt)
-    (under _ (lit< tt) (under _ (lit< tt) (under _ (lit< tt) (under _ (lit< tt) (under _ (lit< tt) (under _ (lit< tt) (lit< tt))))))))
+    if-lt _
+    (if-lt _ (lit< tt)
+    (if-lt _ (lit< tt) (if-lt _ (lit< tt) (if-lt _ (lit< tt) (if-lt _ (lit< tt) (if-lt _ (lit< tt) (if-lt _ (lit< tt) (lit< tt))))))))
     (lit< tt)
 
 keeps-issue : (s : Settings) (v : Status) (c : ℕ) → c < 8 → Fits v → Fits (issueStatus s v c)
 unfolding issueStatus flags9
 keeps-issue s v c h f =
-    let g = under _ (clear 5 2 (f .flags)) (clear-one 4 (f .flags)) in
-    with-flags (with-mode (with-command f h (under _ (f .end) (lit< tt))) (under _ (lit< tt) (f .mode)))
-    (under _ (set 4 (lit< tt) g) (under _ (set 5 (lit< tt) g) (under _ (set 6 (lit< tt) g) g)))
+    let g = if-lt _ (clear 5 2 (f .flags)) (clear-one 4 (f .flags)) in
+    with-flags (with-mode (with-command f h (if-lt _ (f .end) (lit< tt))) (if-lt _ (lit< tt) (f .mode)))
+    (if-lt _ (set 4 (lit< tt) g) (if-lt _ (set 5 (lit< tt) g) (if-lt _ (set 6 (lit< tt) g) g)))
 
 keeps10 : (v : Status) (word : ℕ) → word < 131072 → Fits v → Fits (status10 v word)
 unfolding status10
@@ -214,7 +204,7 @@ keeps34 m r period f =
 output-kept : (s : Settings) (o : Output) (c : ℕ) → OutputFits o → OutputFits (output9 s o c)
 unfolding output9 raised withoutOpposite dropped ownOutput
 output-kept s o c f =
-    either OutputFits _ (record { state = under _ (lit< tt) (lit< tt); sum = lit< tt }) (either OutputFits _ (record { state = lit< tt; sum = lit< tt }) f)
+    either OutputFits _ (record { state = if-lt _ (lit< tt) (lit< tt); sum = lit< tt }) (either OutputFits _ (record { state = lit< tt; sum = lit< tt }) f)
 
 keeps9 : (m : Motor) (c : ℕ) → c < 8 → RecordFits m → RecordFits (step9 m c)
 unfolding step9 issue

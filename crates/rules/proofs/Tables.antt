@@ -10,7 +10,7 @@ use lib.ListN.{length, getD, set, take, drop, take-append-drop}
 use lib.Seq.{length-take-le, length-front, take-at, drop-at}
 use borrow.Author.Tests.{eqb-true, ltb-false, not-false, eq-eqb, ne-eqb, le-ltb}
 use Rattle.words.specs.Word.{if_then_else_}
-use Rattle.words.proofs.Laws.{and-true}
+use Rattle.words.proofs.Laws.{and-true, either}
 use Rattle.rules.specs.Steps.{step}
 use Rattle.rules.specs.Refusals.{inRange, mostMotors, misfit, periodOk, wordOk, allOk, oneRefusal, oneAfter, tableRefusal, stepAll, tableAfter, partRefusal, partAfter}
 use Rattle.rules.specs.declared.Motor.{Motor}
@@ -119,14 +119,9 @@ length-stepAll [] ws p = refl
 length-stepAll (m ∷ ms) [] p = refl
 length-stepAll (m ∷ ms) (w ∷ ws) p = ap suc (length-stepAll ms ws p)
 
-if-either {ℓ} : {A : Type ℓ} (f : A → ℕ) (n : ℕ) (z : Bool) (a b : A) → f a ≡ n → f b ≡ n → f (if_then_else_ z a b) ≡ n
-unfolding if_then_else_
-if-either f n true a b e e′ = e
-if-either f n false a b e e′ = e′
-
 pub length-after : (ms : List Motor) (ws : List ℕ) (p : ℕ) → length (tableAfter ms ws p) ≡ length ms
 unfolding tableAfter
-length-after ms ws p = if-either length (length ms) (eqb (tableRefusal ms ws p) 0) (stepAll ms ws p) ms (length-stepAll ms ws p) refl
+length-after ms ws p = either (λ (ns : List Motor). length ns ≡ length ms) _ (length-stepAll ms ws p) refl
 
 -- ---- a table of which some records are stepped: as many as there are words
 pub none-stepped : (ms : List Motor) (p : ℕ) → stepAll ms [] p ≡ ms
@@ -184,7 +179,7 @@ part-refused ms n ws p h = part-unchanged ms n ws p (ltb mostMotors n) h
 
 pub length-part : (ms : List Motor) (n : ℕ) (ws : List ℕ) (p : ℕ) → length (partAfter ms n ws p) ≡ length ms
 unfolding partAfter
-length-part ms n ws p = if-either length (length ms) (ltb mostMotors n) ms (tableAfter (take n ms) (take n ws) p ++ drop n ms) refl (length-front ms (tableAfter (take n ms) (take n ws) p) n (length-after (take n ms) (take n ws) p))
+length-part ms n ws p = either (λ (ns : List Motor). length ns ≡ length ms) _ refl (length-front ms (tableAfter (take n ms) (take n ws) p) n (length-after (take n ms) (take n ws) p))
 
 -- where a table of the first records is accepted, they are stepped
 pub part-stepped : (ms : List Motor) (n : ℕ) (ws : List ℕ) (p : ℕ) → partRefusal ms n ws p ≡ 0 → partAfter ms n ws p ≡ stepAll ms (take n ws) p

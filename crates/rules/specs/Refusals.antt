@@ -1,7 +1,7 @@
 -- The limits, and the order of refusals of a scan: the paper's "Refused because of the input", "Refused because of the state" and
 -- "Order", as far as they concern a scan. 0 is an accepted scan.
 use Prim.Native.Nat.{ℕ}
-use mathlib.Core.Bool.{Bool, true, false, not, _&&_, _||_}
+use mathlib.Core.Bool.{Bool, true, not, _&&_, _||_}
 use mathlib.Core.List.{List, [], _∷_, _++_}
 use lib.Dec.{eqb, leb, ltb}
 use lib.ListN.{length, take, drop}

@@ -1,7 +1,7 @@
 -- Sheets with their marks, shown of the rules themselves by computation. Assumes nothing.
 use Prim.Native.Nat.{ℕ, suc, zero}
 use mathlib.Core.Path.{_≡_, refl}
-use mathlib.Core.Bool.{Bool, true, false, _&&_}
+use mathlib.Core.Bool.{Bool, true, _&&_}
 use mathlib.Core.List.{List, [], _∷_, _++_}
 use lib.Dec.{eqb}
 use Rattle.rules.specs.declared.Settings.{Settings}
@@ -138,8 +138,9 @@ ownSheets =
     -- step 4: a pulse drops when its command is overdue, and stays at a confirmation without OPS_1 bit 7
     ∷ sheet (wiring 193 0 100 300) (32 ∷ 4128 ∷ 32 ∷ []) (line 2 1 0 3 0 8192)
     ∷ sheet (wiring 65 0 500 300) (32 ∷ 4128 ∷ 16 ∷ []) (line 2 2 0 1 1 0)
-    -- step 4: SMA is confirmed by Off; MU off by its bit
+    -- step 4: SMA is confirmed by Off, and so is MU off
     ∷ sheet wired (16 ∷ 17 ∷ 32 ∷ []) (line 2 1 0 1 0 64)
+    ∷ sheet wired (16 ∷ 26 ∷ 34 ∷ []) (line 2 1 0 1 0 0)
     -- step 4: W 401 is not up after 400; U 201 not after 200
     ∷ sheet (wiring 193 0 401 201) (32 ∷ 4128 ∷ 32 ∷ 32 ∷ 32 ∷ 32 ∷ []) (command ≔ 7 ∷ end ≔ 0 ∷ [])
     ∷ sheet (wiring 193 0 500 201) (32 ∷ 4128 ∷ 32 ∷ 32 ∷ []) (output ≔ 1 ∷ [])

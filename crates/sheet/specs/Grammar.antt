@@ -82,7 +82,8 @@ textRequest faulty = Refused
 unfoldable pub requestsOf : List ℕ → List Request
 requestsOf file = map textRequest (linesOf file)
 
--- The request at a place of a file, and the place after its line. After a refused line "the program stops", so nothing follows it.
+-- The request at a place of a file, and the place after its line. A line that is empty, too long or without LF is refused, and then "the
+-- program stops": the place after it is the file's end.
 unfoldable pub takenAt : List ℕ → ℕ → Line → Next
 takenAt file at (Until end) = Taken (requestOf (between at end file)) (end + 1)
 takenAt file at Faulty = Taken Refused (length file)

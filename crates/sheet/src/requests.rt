@@ -134,8 +134,8 @@ pub fn parse(line: &[u8]) -> Request
     Request::Refused
 }
 
-// The request of the line at a place of a file, and the place after that line. The program stops at a refused line, so the
-// place after one is the file's end.
+// The request of the line at a place of a file, and the place after that line. After one that is empty, too long or without LF
+// that is the file's end, since the program stops there.
 pub fn request_at(file: &[u8], at: usize) -> Next
     ensures { λ r. ⌜ r ≡ nextAt (now (file .entry)) at ⌝ }
 {

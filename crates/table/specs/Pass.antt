@@ -1,7 +1,7 @@
 -- The decisions of a table's scan, one each, as the functions behind `scan` make them. Assumes nothing.
 use Prim.Native.Nat.{ℕ}
-use mathlib.Core.Bool.{Bool, not, _&&_, _||_}
-use lib.Dec.{eqb, ltb}
+use mathlib.Core.Bool.{not, _&&_}
+use lib.Dec.{eqb}
 use Rattle.words.specs.Word.{if_then_else_}
 use Rattle.rules.specs.Refusals.{inRange, misfit, periodOk, wordOk}
 use Rattle.rules.specs.declared.Motor.{Motor}

@@ -202,16 +202,28 @@ clear-keeps j n k w (inr h) =
     (sym (shr-shr (withoutBits j n w) j n) ∙ ap (λ (x : ℕ). x / 2 ^ n) (cleared j n w .high) ∙ mul-div-cancel (w / 2 ^ j / 2 ^ n) (pow-pos n)
     ∙ shr-shr w j n)
 
+pub clear-one-keeps : (j k w : ℕ) → j ≢ k → isSet k (withoutBit j w) ≡ isSet k w
+unfolding withoutBit
+clear-one-keeps j k w ne = clear-keeps j 1 k w (go (ltb k j) refl)
+  where
+    go : (below : Bool) → ltb k j ≡ below → (k < j) ⊎ (j + 1 ≤ k)
+    go true e = inl (ltb-true k j e)
+    go false e = inr (let h = ltb-false k j e in omega arith)
+
 -- a bit that is cleared is 0
 pub clear-has : (k w : ℕ) → isSet k (withoutBit k w) ≡ false
 unfolding withoutBit isSet bitOf
 clear-has k w = ne-eqb (withoutBits k 1 w / 2 ^ k % 2) 1 (λ e. let h = cleared k 1 w .high in omega arith)
 
+-- a choice has what both of its arms have
+pub either {ℓ} : {A : Type ℓ} (P : A → Type 0) (b : Bool) {x y : A} → P x → P y → P (if b then x else y)
+unfolding if_then_else_
+either P true p q = p
+either P false p q = q
+
 -- bounds
 pub if-lt : {n : ℕ} (b : Bool) {x y : ℕ} → x < n → y < n → (if b then x else y) < n
-unfolding if_then_else_
-if-lt true p q = p
-if-lt false p q = q
+if-lt {n} b = either (λ (k : ℕ). k < n) b
 
 pub with-lt : (n k w : ℕ) → n ≤ 32 → k < n → w < 2 ^ n → withBit k w < 2 ^ n
 with-lt n k w hn hk hw = rw (or-bit k w (omega arith)) at (or-lt n w (2 ^ k) hw (pow-lt hk))
