@@ -69,6 +69,7 @@ keeps7to10 s v word k o =
     let at7 = keeps7 s v word k o in
     either (λ (x : Status). isSet k (x .flags) ≡ isSet k (v .flags)) _ at7 (keeps9 _ k _ o ∙ at7)
 
+-- step 9 does to the record's status what it does to the book's
 pub step9-status : (m : Motor) (c : ℕ) → step9 m c .status ≡ status9 (m .settings) (m .status) c
 unfolding step9 status9 if_then_else_ issue
 step9-status m c = go (eqb c 0)
