@@ -6,6 +6,7 @@ use native.Mathlib.Omega.{arith}
 use lib.Dec.{eqb, leb}
 use borrow.Author.Tests.{lt-ltb, le-ltb}
 use Rattle.words.specs.Word.{if_then_else_}
+use Rattle.words.proofs.Laws.{either, if-map}
 use Rattle.rules.specs.declared.Settings.{Settings}
 use Rattle.rules.specs.declared.Status.{Status}
 use Rattle.rules.specs.declared.Reading.{Reading}
@@ -32,20 +33,12 @@ unfoldable pub endIn : Settings → Status → ℕ → Bool → ℕ
 endIn s v word up = end4 (status2 s (status1 v word) (reading s word)) (reading s word) up
 
 step9-settings : (m : Motor) (c : ℕ) → step9 m c .settings ≡ m .settings
-unfolding step9 if_then_else_ issue
-step9-settings m c = go (eqb c 0)
-  where
-    go : (b : Bool) → (if b then m else issue m c) .settings ≡ m .settings
-    go true = refl
-    go false = refl
+unfolding step9 issue
+step9-settings m c = either (λ (n : Motor). n .settings ≡ m .settings) _ refl refl
 
 step9-sum : (m : Motor) (c : ℕ) → step9 m c .sum ≡ (if eqb c 0 then m .sum else 0)
-unfolding step9 if_then_else_ issue
-step9-sum m c = go (eqb c 0)
-  where
-    go : (b : Bool) → (if b then m else issue m c) .sum ≡ (if b then m .sum else 0)
-    go true = refl
-    go false = refl
+unfolding step9 issue
+step9-sum m c = if-map (λ (n : Motor). n .sum) (eqb c 0) m (issue m c)
 
 settings-step : (m : Motor) (word p : ℕ) → step m word p .settings ≡ m .settings
 unfolding step steps1to5 steps6to10 withStatus step4 step3
@@ -70,30 +63,15 @@ sum-step m word p s v e f = rw (← e, ← f) (step9-sum _ _)
 pub command-after : (s : Settings) (v : Status) (word : ℕ) (up : Bool)
     → status7to10 s (status1to6 s v word up) word .command
     ≡ (if eqb (issued s (status1to6 s v word up) word) 0 then (if endsIn s v word up then 0 else v .command) else issued s (status1to6 s v word up) word)
-unfolding status7to10 status10 status9 withPrevious if_then_else_ issueStatus status7 withFlags withMode withCommand withPositions status1to6 status6 status5 status4 status2 status1 endsIn
-command-after s v word up = go (eqb (issued s (status1to6 s v word up) word) 0)
-  where
-    c : ℕ
-    c = issued s (status1to6 s v word up) word
-
-    go : (b : Bool)
-        → (if b then status7 s (status1to6 s v word up) word else issueStatus s (status7 s (status1to6 s v word up) word) c) .command
-        ≡ (if b then (if endsIn s v word up then 0 else v .command) else c)
-    go true = refl
-    go false = refl
+unfolding status7to10 status10 status9 withPrevious issueStatus status7 withFlags withMode withCommand withPositions status1to6 status6 status5 status4 status2 status1 endsIn
+command-after s v word up = if-map (λ (x : Status). x .command) _ _ _
 
 pub end-after : (s : Settings) (v : Status) (word : ℕ) (up : Bool)
     → status7to10 s (status1to6 s v word up) word .end
     ≡ (if eqb (issued s (status1to6 s v word up) word) 0 then endIn s v word up
     else if eqb (if endsIn s v word up then 0 else v .command) 0 then endIn s v word up else end-displaced)
-unfolding status7to10 status10 status9 withPrevious if_then_else_ issueStatus status7 withFlags withMode withCommand withPositions status1to6 status6 status5 status4 status2 status1 endsIn endIn ended end4 idle
-end-after s v word up = go (eqb (issued s (status1to6 s v word up) word) 0)
-  where
-    go : (b : Bool)
-        → (if b then status7 s (status1to6 s v word up) word else issueStatus s (status7 s (status1to6 s v word up) word) (issued s (status1to6 s v word up) word)) .end
-        ≡ (if b then endIn s v word up else if eqb (if endsIn s v word up then 0 else v .command) 0 then endIn s v word up else end-displaced)
-    go true = refl
-    go false = refl
+unfolding status7to10 status10 status9 withPrevious issueStatus status7 withFlags withMode withCommand withPositions status1to6 status6 status5 status4 status2 status1 endsIn endIn ended end4 idle
+end-after s v word up = if-map (λ (x : Status). x .end) _ _ _
 
 -- with no command under way it does not matter whether the time is up
 same4 : (v : Status) (r : Reading) (a b t : Bool) → idle v ≡ t → (t ≡ false → a ≡ b) → status4 v r a ≡ status4 v r b
@@ -124,11 +102,6 @@ pub record Held (s : Settings) (h : Log Input) (m : Motor) (b : Book) : Type 0 w
   pub status-is : m .status ≡ b .status
   pub number : b .issue ≤ count h
   pub sum-is : idle (b .status) ≡ false → m .sum ≡ since (b .issue) h
-
-number-le : (z : Bool) (i n : ℕ) → i ≤ n → (if z then i else suc n) ≤ suc n
-unfolding if_then_else_
-number-le true i n h = omega arith
-number-le false i n h = omega arith
 
 module _ (s : Settings) (h : Log Input) (m : Motor) (b : Book) (x : Input) (k : Held s h m b) where
   upM : Bool
@@ -172,7 +145,7 @@ module _ (s : Settings) (h : Log Input) (m : Motor) (b : Book) (x : Input) (k : 
       record {
         settings-is = settings-step m (x .word) (x .period) ∙ k .settings-is;
         status-is = status-held;
-        number = number-le _ (b .issue) (count h) (k .number);
+        number = either (λ (i : ℕ). i ≤ suc (count h)) _ (omega (arith, k .number)) (omega arith);
         sum-is = sum-held;
       }
 

@@ -8,7 +8,7 @@ use native.Mathlib.Decide.{ℕ-discrete}
 use lib.Dec.{eqb, ltb, lit<}
 use borrow.Author.Tests.{eqb-true, eqb-false, ne-eqb, ltb-true}
 use Rattle.words.specs.Word.{if_then_else_, isSet}
-use Rattle.words.proofs.Laws.{if-lt, set-has}
+use Rattle.words.proofs.Laws.{if-lt, set-has, and-true}
 use Rattle.rules.specs.declared.Settings.{Settings}
 use Rattle.rules.specs.declared.Status.{Status}
 use Rattle.rules.specs.declared.Reading.{Reading}
@@ -38,12 +38,7 @@ displaces-ne k c h e = false≢true (rw e at h)
 
 displaces-lt : (k c : ℕ) → displaces k c ≡ true → k < c
 unfolding displaces
-displaces-lt k c h = ltb-true k c (middle (not (eqb k 0)) (ltb k c) _ h)
-  where
-    middle : (a b d : Bool) → (a && b && d) ≡ true → b ≡ true
-    middle true true d h = refl
-    middle true false d h = h
-    middle false b d h = absurd (false≢true h)
+displaces-lt k c h = ltb-true k c (and-true (not (eqb k 0)) (ltb k c) (and-true _ _ h .0) .1)
 
 -- a command that is confirmed or overdue makes room for another
 over : (c k q i n f : ℕ) (z : Bool) → f ≢ 0 → f ≢ 2 → Turn c k i n f (if z then 0 else q) (if z then f else f) (if z then i else n)
@@ -104,7 +99,7 @@ command-lt s (h ▸ x) =
     rw (command-after s (b .status) (x .word) up)
     (if-lt _ (if-lt _ (lit< tt) (command-lt s h)) (issued-fits s (status1to6 s (b .status) (x .word) up) (x .word)))
 
-three : (x up d : Bool) → _≡_ {A = ℕ} (if x then 1 else if up then 3 else if d then 2 else 0) 3 → (x ≡ false) × (up ≡ true)
+pub three : (x up d : Bool) → _≡_ {A = ℕ} (if x then 1 else if up then 3 else if d then 2 else 0) 3 → (x ≡ false) × (up ≡ true)
 unfolding if_then_else_
 three true up d h = absurd (omega arith)
 three false true d h = (refl, refl)

@@ -2,10 +2,11 @@
 use Prim.Native.Nat.{_<_}
 use mathlib.Core.Path.{_≡_, refl, sym, ap, _∙_}
 use mathlib.Core.Bool.{Bool, true, false}
-use mathlib.Core.List.{List, [], _∷_, _++_}
+use mathlib.Core.List.{List, _∷_, _++_}
 use native.Mathlib.Omega.{arith}
 use lib.Dec.{eqb}
 use lib.ListN.{length, getD, length-append}
+use lib.Seq.{getD-append-seam}
 use borrow.Author.Tests.{eqb-true, eqb-false}
 use Rattle.words.specs.Word.{if_then_else_}
 use Rattle.rules.specs.declared.Settings.{Settings}
@@ -17,10 +18,6 @@ use Rattle.book.specs.Log.{Log, none, _▸_}
 use Rattle.book.specs.History.{Entry, table, single, otherTable, otherSingle, resultOf, after, inputOf, takesIn, counts, recordAfter, history, recordOf}
 
 -- the motor's place in the table
-at-place : (b a : List Motor) (m : Motor) → getD (b ++ (m ∷ a)) (length b) m ≡ m
-at-place [] a m = refl
-at-place (x ∷ b) a m = at-place b a m
-
 in-table : (b a : List Motor) (m : Motor) → length b < length (b ++ (m ∷ a))
 in-table b a m = rw length-append (omega arith)
 
@@ -34,8 +31,8 @@ after-is m (table b a ws p) = go (eqb (tableRefusal (b ++ (m ∷ a)) ws p) 0) re
 
     go : (t : Bool) → eqb (tableRefusal l ws p) 0 ≡ t
         → getD (tableAfter l ws p) (length b) m ≡ (if t then step m (getD ws (length b) 0) p else m)
-    go true h = rw (at-place b a m) at (element l ws p (eqb-true _ _ h) (length b) m (in-table b a m))
-    go false h = rw (table-refused l ws p (eqb-false _ _ h)) (at-place b a m)
+    go true h = rw (getD-append-seam b m a m) at (element l ws p (eqb-true _ _ h) (length b) m (in-table b a m))
+    go false h = rw (table-refused l ws p (eqb-false _ _ h)) (getD-append-seam b m a m)
 after-is m (single w p) = refl
 after-is m (otherTable ms ws p) = refl
 after-is m (otherSingle n w p) = refl

@@ -3,7 +3,7 @@
 use Prim.Native.Nat.{ℕ, _≤_, _<_}
 use mathlib.Core.Path.{_≡_, refl, sym, _∙_}
 use mathlib.Core.Logic.{_≢_}
-use mathlib.Core.Bool.{Bool, true, false}
+use mathlib.Core.Bool.{false}
 use native.Mathlib.Omega.{arith}
 use borrow.Author.Tests.{leb-true, lt-leb}
 use Rattle.words.specs.Word.{if_then_else_}
@@ -16,7 +16,7 @@ use Rattle.book.specs.History.{Entry, recordAfter, history}
 use Rattle.book.specs.Book.{since, isUp, bookOf}
 use Rattle.book.specs.Claim.{UnderWay, Issued, chosenIn, fate, Demand3}
 use Rattle.book.proofs.Book.{none-since, one-since}
-use Rattle.book.proofs.Ends.{goes-on, ends-of}
+use Rattle.book.proofs.Ends.{three, goes-on, ends-of}
 
 -- A command issued by the last scan of h is under way after the next scan, if that neither confirms nor displaces it and takes less than W.
 pub not-ended-at-once : (s : Settings) (c : ℕ) (h : Log Input) (x : Input) → Issued s c h → confirms (reading s (x .word)) c ≡ false
@@ -31,13 +31,7 @@ not-ended-at-once s c h x u no-sign no-order short =
 pub not-overdue-early : (s : Settings) (c i : ℕ) (h : Log Input) (x : Input) → UnderWay s c i h
     → bookOf s (h ▸ x) .status .end ≡ end-overdue → s .w ≤ since i (h ▸ x)
 unfolding fate isUp if_then_else_
-not-overdue-early s c i h x u e = leb-true _ _ (up (confirms (reading s (x .word)) c) _ (displaces (chosenIn s h x) c) (sym (ends-of s h x c i u .end) ∙ e))
-  where
-    up : (a b d : Bool) → _≡_ {A = ℕ} (if a then 1 else if b then 3 else if d then 2 else 0) 3 → b ≡ true
-    up true b d e = absurd (omega arith)
-    up false true d e = refl
-    up false false true e = absurd (omega arith)
-    up false false false e = absurd (omega arith)
+not-overdue-early s c i h x u e = leb-true _ _ (three (confirms (reading s (x .word)) c) _ (displaces (chosenIn s h x) c) (sym (ends-of s h x c i u .end) ∙ e) .1)
 
 -- The sum of a command under way is none but the time since its issue.
 pub not-invented : (s : Settings) (es : Log Entry) (n : ℕ) → Demand3 s es → idle (recordAfter s es .status) ≡ false

@@ -2,7 +2,8 @@
 ghost use mathlib.Core.Path.{_≡_};
 ghost use Rattle.rules.specs.Scans.{SumsFit, Steppable};
 ghost use Rattle.rules.specs.Record.{withStatus};
-ghost use Rattle.rules.specs.Steps.{status1, reading, status2, step3, step4, status5, issue, step9, steps1to5, steps6to10, step};
+ghost use Rattle.rules.specs.Steps.{step3, step4, issue, step9, steps1to5, steps6to10, step};
+ghost use Rattle.rules.specs.Resting.{idleStatus};
 use crate::output::choose_output;
 use crate::output::is_dropped;
 use crate::output::is_running;
@@ -91,7 +92,7 @@ pub fn issue_any(m: Motor, c: u32) -> Motor
 
 // Steps 1, 2 and 5.
 pub fn idle_status(s: Settings, v: Status, word: u32) -> Status
-    ensures { λ r. ⌜ r ≡ status5 s (status2 s (status1 v word) (reading s word)) word (reading s word) ⌝ }
+    ensures { λ r. ⌜ r ≡ idleStatus s v word ⌝ }
 {
     let r = read(s, word);
     form_flags(s, switches(s, begin(v, word), r), word, r)

@@ -6,7 +6,7 @@ use mathlib.Core.Bool.{Bool, true, false, _&&_}
 use native.Mathlib.Omega.{arith}
 use lib.Dec.{eqb, lit<, lit≤}
 use Rattle.words.specs.Word.{if_then_else_, isSet}
-use Rattle.words.proofs.Laws.{set-has, set-keeps, clear-has, clear-keeps, clear-one-keeps, either}
+use Rattle.words.proofs.Laws.{set-has, set-keeps, clear-has, clear-keeps, clear-one-keeps, either, if-map}
 use Rattle.rules.specs.declared.Settings.{Settings}
 use Rattle.rules.specs.declared.Status.{Status}
 use Rattle.rules.specs.declared.Motor.{Motor}
@@ -71,12 +71,8 @@ keeps7to10 s v word k o =
 
 -- step 9 does to the record's status what it does to the book's
 pub step9-status : (m : Motor) (c : ℕ) → step9 m c .status ≡ status9 (m .settings) (m .status) c
-unfolding step9 status9 if_then_else_ issue
-step9-status m c = go (eqb c 0)
-  where
-    go : (b : Bool) → (if b then m else issue m c) .status ≡ (if b then m .status else issueStatus (m .settings) (m .status) c)
-    go true = refl
-    go false = refl
+unfolding step9 status9 issue
+step9-status m c = if-map (λ (n : Motor). n .status) (eqb c 0) m (issue m c)
 
 keeps6to10 : (m : Motor) (word k : ℕ) → Other k → flag (steps6to10 m word .status) k ≡ flag (m .status) k
 unfolding steps6to10 status7to10 withStatus

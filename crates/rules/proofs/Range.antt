@@ -8,7 +8,7 @@ use mathlib.Core.Logic.{_≢_}
 use native.Mathlib.Nat.{lt-of-le-of-lt}
 use native.Mathlib.Omega.{arith}
 use lib.Dec.{eqb, leb, lit<, lit≤}
-use borrow.Author.Tests.{leb-true, leb-false, le-leb, eqb-true}
+use borrow.Author.Tests.{leb-true, leb-false, le-leb, eqb-true, not-false}
 use Rattle.words.specs.Word.{if_then_else_, withBit, withoutBit, withoutBits}
 use Rattle.words.proofs.Laws.{either, if-lt, with-lt, without-le, and-true}
 use Rattle.rules.specs.declared.Settings.{Settings}
@@ -21,6 +21,7 @@ use Rattle.rules.specs.Record.{OPS₁, commands, idle, ownOutput, overdu
 use Rattle.rules.specs.Steps.{flags1, status1, reading, positionRead, flags2, pretended, status2, running, step3, confirmed, overdue, ended, end4, flags4, status4, timeUp, pulseOver, drops, step4, putFlag, status5, modeAsked, status6, flags7, status7, chosen, firstOf, issued, flags9, issueStatus, raised, withoutOpposite, output9, issue, step9, status10, steps1to5, steps6to10, step}
 use Rattle.rules.specs.Refusals.{mostFlags, settingsInRange, statusInRange, outputInRange, inRange, periodOk, wordOk, oneRefusal, oneAfter}
 use Rattle.rules.specs.Scans.{Input, scans, Steppable}
+use Rattle.rules.proofs.Tables.{if-zero}
 
 -- ---- the ranges, as bounds
 
@@ -328,15 +329,12 @@ pub record OneAccepted (m : Motor) (word period : ℕ) : Type 0 where
   pub input : wordOk word ≡ true
 
 pub one-in-limits : (m : Motor) (word period : ℕ) → oneRefusal m word period ≡ 0 → OneAccepted m word period
-unfolding oneRefusal if_then_else_
-one-in-limits m word period = go (inRange m) refl (periodOk period) refl (wordOk word) refl
-  where
-    go : (a : Bool) → inRange m ≡ a → (b : Bool) → periodOk period ≡ b → (c : Bool) → wordOk word ≡ c
-        → _≡_ {A = ℕ} (if not a then 6 else if not b then 2 else if not c then 3 else 0) 0 → OneAccepted m word period
-    go true p true q true r h = record { range = p; time = q; input = r }
-    go true p true q false r h = absurd (omega arith)
-    go true p false q c r h = absurd (omega arith)
-    go false p b q c r h = absurd (omega arith)
+unfolding oneRefusal
+one-in-limits m word period h =
+    let a = if-zero (not (inRange m)) 6 _ (lit< tt) h in
+    let b = if-zero (not (periodOk period)) 2 _ (lit< tt) (a .1) in
+    let c = if-zero (not (wordOk word)) 3 0 (lit< tt) (b .1) in
+    record { range = not-false _ (a .0); time = not-false _ (b .0); input = not-false _ (c .0) }
 
 -- an accepted scan has what its code needs
 pub steppable : {m : Motor} {word period : ℕ} → OneAccepted m word period → Steppable m period

@@ -3,23 +3,19 @@ use mathlib.Core.Path.{_≡_, refl, sym, _∙_, ap}
 use Prim.Native.Nat.{ℕ, zero, suc, _<_, _≤_}
 use native.Mathlib.Nat.{not-suc-le-zero, le-of-suc-le-suc}
 use native.Mathlib.Omega.{arith}
-use mathlib.Core.Bool.{Bool, true, false, not, _&&_, _||_}
+use mathlib.Core.Bool.{Bool, true, false, not, _&&_, _||_, and-true as and-end, and-assoc}
 use mathlib.Core.List.{List, [], _∷_, _++_}
 use lib.Dec.{eqb, ltb, lit<}
 use lib.ListN.{length, getD, set, take, drop, take-append-drop}
 use lib.Seq.{length-take-le, length-front, take-at, drop-at}
 use borrow.Author.Tests.{eqb-true, ltb-false, not-false, eq-eqb, ne-eqb, le-ltb}
 use Rattle.words.specs.Word.{if_then_else_}
-use Rattle.words.proofs.Laws.{and-true, either}
+use Rattle.words.proofs.Laws.{and-true, either, if-map}
 use Rattle.rules.specs.Steps.{step}
 use Rattle.rules.specs.Refusals.{inRange, mostMotors, misfit, periodOk, wordOk, allOk, oneRefusal, oneAfter, tableRefusal, stepAll, tableAfter, partRefusal, partAfter}
 use Rattle.rules.specs.declared.Motor.{Motor}
 
 -- ---- tests
-pub and-end : (b : Bool) → b && true ≡ b
-and-end true = refl
-and-end false = refl
-
 pub or-false : (a b : Bool) → a || b ≡ false → (a ≡ false) × (b ≡ false)
 or-false true b e = (e, cc)
 or-false false b e = (refl, e)
@@ -35,15 +31,11 @@ allOk-at f [] i d e l = absurd (not-suc-le-zero l)
 allOk-at f (x ∷ xs) zero d e l = and-true (f x) (allOk f xs) e .0
 allOk-at f (x ∷ xs) (suc i) d e l = allOk-at f xs i d (and-true (f x) (allOk f xs) e .1) (le-of-suc-le-suc l)
 
-and-assoc : (a b c : Bool) → a && (b && c) ≡ a && b && c
-and-assoc true b c = refl
-and-assoc false b c = refl
-
 pub allOk-suc {ℓ} : {A : Type ℓ} (f : A → Bool) (xs : List A) (i : ℕ) (d : A) → i < length xs → allOk f (take (suc i) xs) ≡ allOk f (take i xs) && f (getD xs i d)
 unfolding allOk
 allOk-suc f [] i d l = absurd (not-suc-le-zero l)
 allOk-suc f (x ∷ xs) zero d l = and-end (f x)
-allOk-suc f (x ∷ xs) (suc i) d l = ap (λ (b : Bool). f x && b) (allOk-suc f xs i d (le-of-suc-le-suc l)) ∙ and-assoc (f x) (allOk f (take i xs)) (f (getD xs i d))
+allOk-suc f (x ∷ xs) (suc i) d l = ap (λ (b : Bool). f x && b) (allOk-suc f xs i d (le-of-suc-le-suc l)) ∙ sym (and-assoc (f x) (allOk f (take i xs)) (f (getD xs i d)))
 
 -- ---- one motor
 pub one-refused : (m : Motor) (w p : ℕ) → (oneRefusal m w p ≡ 0 → ⊥) → oneAfter m w p ≡ m
@@ -158,14 +150,9 @@ pub single-refusal : (m : Motor) (w p : ℕ) → tableRefusal (m ∷ []) (w ∷ 
 unfolding tableRefusal misfit oneRefusal mostMotors allOk if_then_else_
 single-refusal m w p = rw (and-end (inRange m), and-end (wordOk w))
 
-one-of : {A : Type 0} (z : Bool) (a b : A) → _≡_ {A = List A} (if_then_else_ z (a ∷ []) (b ∷ [])) (if_then_else_ z a b ∷ [])
-unfolding if_then_else_
-one-of true a b = refl
-one-of false a b = refl
-
 pub single-after : (m : Motor) (w p : ℕ) → tableAfter (m ∷ []) (w ∷ []) p ≡ oneAfter m w p ∷ []
 unfolding tableAfter oneAfter stepAll
-single-after m w p = rw (single-refusal m w p) (one-of (eqb (oneRefusal m w p) 0) (step m w p) m)
+single-after m w p = rw (single-refusal m w p) (sym (if-map (λ (n : Motor). n ∷ []) (eqb (oneRefusal m w p) 0) (step m w p) m))
 
 -- ---- the first records of an array
 part-unchanged : (ms : List Motor) (n : ℕ) (ws : List ℕ) (p : ℕ) (z : Bool) → (if_then_else_ z 1 (tableRefusal (take n ms) (take n ws) p) ≡ 0 → ⊥) → if_then_else_ z ms (tableAfter (take n ms) (take n ws) p ++ drop n ms) ≡ ms

@@ -13,6 +13,10 @@ use Rattle.rules.specs.Steps.{reading, running, status1, status2, status
 unfoldable pub rests : Settings → Status → Output → ℕ → Bool
 rests s v o word = idle v && not (running s o) && eqb (without (v .previous) word) 0
 
--- Then steps 1, 2, 5 and 10 are all that is left to do, and they concern the status alone.
+-- Steps 1, 2 and 5, which are all of the first five where no command is under way and no pulse runs
+unfoldable pub idleStatus : Settings → Status → ℕ → Status
+idleStatus s v word = let r = reading s word in status5 s (status2 s (status1 v word) r) word r
+
+-- At rest they and step 10 are all that is left to do, and they concern the status alone.
 unfoldable pub restedStatus : Settings → Status → ℕ → Status
-restedStatus s v word = let r = reading s word in status10 (status5 s (status2 s (status1 v word) r) word r) word
+restedStatus s v word = status10 (idleStatus s v word) word

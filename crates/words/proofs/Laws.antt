@@ -1,17 +1,17 @@
 -- What shift and mask make of a word, against its quotients and remainders: each law once, over the index and the width.
 -- Assumes nothing.
 use mathlib.Core.Path.{_≡_, refl, sym, ap, ap₂, _∙_, subst}
-use mathlib.Core.Bool.{Bool, true, false, not, _&&_}
+use mathlib.Core.Bool.{Bool, true, false, not, _&&_, and-eq-true-iff}
 use mathlib.Core.Logic.{_≢_, _⊎_, inl, inr}
 use Prim.Native.Nat.{ℕ, zero, suc, _+_, _-_, _*_, _/_, _%_, _^_, _<_, _≤_, min}
 use native.Mathlib.Nat.{sub-le, lt-of-lt-of-le, pow-suc, mod-lt, div-eq-of-lt, one-mul, zero-mul, add-zero, add-suc, div-one, zero-min, add-mul-div-right, div-add-mod', div-mul-le-self, mul-le-mul-right, mul-div-cancel, mul-assoc, mod-le}
 use native.Mathlib.Numerals.{one-add}
 use native.Mathlib.Omega.{arith}
-use lib.Dec.{lit<, eqb, ltb}
+use lib.Dec.{lit<, eqb, leb, ltb}
 use lib.Arith.{lt-one}
 use lib.Pow.{pow-pos, pow-lt, pow-mono, pow-add, shl-lt, shl-exact, shr-lt, shr-shr, ones-lt, high-ones}
 use lib.Bits.{bitAnd, bitOr, or-lt, and-le-l, and-high, and-step, and-shr, and-mod, or-add-and}
-use borrow.Author.Tests.{lt-ltb, ltb-true, ltb-false, eq-eqb, ne-eqb}
+use borrow.Author.Tests.{lt-ltb, ltb-true, ltb-false, leb-true, eq-eqb, ne-eqb}
 use Rattle.words.specs.Word.{if_then_else_, bitOf, isSet, rose, without, withoutBits, withoutBit, withBit}
 
 -- a bit is 0 or 1
@@ -221,6 +221,12 @@ unfolding if_then_else_
 either P true p q = p
 either P false p q = q
 
+-- what is taken of a choice is taken of each of its arms
+pub if-map {ℓ κ} : {A : Type ℓ} {B : Type κ} (f : A → B) (b : Bool) (x y : A) → f (if b then x else y) ≡ (if b then f x else f y)
+unfolding if_then_else_
+if-map f true x y = refl
+if-map f false x y = refl
+
 -- bounds
 pub if-lt : {n : ℕ} (b : Bool) {x y : ℕ} → x < n → y < n → (if b then x else y) < n
 if-lt {n} b = either (λ (k : ℕ). k < n) b
@@ -234,5 +240,8 @@ without-le k n w = sub-le w _
 
 -- two tests that hold together
 pub and-true : (a b : Bool) → a && b ≡ true → (a ≡ true) × (b ≡ true)
-and-true true b e = (refl, e)
-and-true false b e = (e, cc)
+and-true a b = and-eq-true-iff a b .0
+
+-- two bounds that are tested together
+pub both-le : {a b c d : ℕ} → leb a b && leb c d ≡ true → (a ≤ b) × (c ≤ d)
+both-le {a} {b} {c} {d} e = let w = and-true (leb a b) (leb c d) e in (leb-true a b (w .0), leb-true c d (w .1))

@@ -1,8 +1,10 @@
+use Rattle.rules.specs.Resting.{idleStatus}
 use borrow.Author.Needs.{needs}
 use Rattle.motor.proofs.steps.idle_status.Statement.{statement}
 use Rattle.motor.proofs.steps.idle_status.Tie as tie
 
 returns : tie.Need-returns
+unfolding idleStatus
 returns c = cc
 
 pub idle-status-spec : {M : Type 1} → statement M
