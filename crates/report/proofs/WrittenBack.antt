@@ -1,21 +1,20 @@
 -- A request that is written as a line is read back, whatever lines follow. Assumes nothing.
-use Prim.Native.Nat.{ℕ, suc, _+_, _<_, _≤_}
+use Prim.Native.Nat.{ℕ, _+_, _<_, _≤_}
 use mathlib.Core.Path.{_≡_, refl, ap, _∙_}
-use mathlib.Core.Bool.{_&&_}
 use mathlib.Core.List.{List, [], _∷_, _++_, map, append-assoc}
 use native.Mathlib.Omega.{arith}
-use lib.ListN.{length, getD, length-append, length-map}
-use lib.Dec.{eqb}
+use lib.ListN.{length, length-append}
 use borrow.Author.Tests.{le-leb, lt-ltb, ne-eqb}
 use Rattle.words.specs.Word.{if_then_else_}
-use Rattle.sheet.specs.Split.{LF, comma, split, joined, indexOf, fieldOf, fieldCount}
+use Rattle.sheet.specs.Split.{LF, comma, joined, indexOf}
 use Rattle.sheet.specs.Lines.{longest, line, wellSized, textOf, linesOf}
-use Rattle.sheet.specs.Number.{largest, numberOf}
-use Rattle.sheet.specs.Grammar.{letter-M, letter-I, letter-S, letterOf, isKind, numberIn, withValue, motorFrom, inputFrom, scanFrom, motorOf, inputOf, scanOf, requestOf, textRequest, requestsOf, valuesOf}
+use Rattle.sheet.specs.Number.{largest}
+use Rattle.sheet.specs.Grammar.{letter-M, letter-I, letter-S, requestOf, textRequest, requestsOf, valuesOf}
 use Rattle.sheet.specs.declared.Request.{Request}
 use Rattle.sheet.specs.declared.Request.the-variants.{Motor, Input, Scan, Refused}
-use Rattle.sheet.proofs.SplitLaws.{Free, free-none, free-more, split-joined, free-joined}
+use Rattle.sheet.proofs.SplitLaws.{Free, free-none, free-more, free-joined}
 use Rattle.sheet.proofs.LineLaws.{lines-part}
+use Rattle.sheet.proofs.PlaceLaws.{motor-request, input-request, scan-request}
 use Rattle.report.specs.Print.{decimal, afterComma, afterCommas, lineOf}
 use Rattle.report.specs.Written.{written}
 use Rattle.report.proofs.PrintLaws.{line-length}
@@ -54,9 +53,6 @@ module _ (letter : ℕ) (ns : List ℕ) (high : 48 ≤ letter) (r : InRange ns) 
   unfolding indexOf if_then_else_
   fields-free b h = free-more {p = letter ∷ []} (rw (ne-eqb letter b (λ e. omega arith))) (numbers-free b ns h r)
 
-  pub line-fields : split comma (joined comma (fields letter ns)) ≡ fields letter ns
-  line-fields = split-joined (fields-free comma (omega arith))
-
   -- in front of other lines it is a line by itself; six numbers keep within the longest line
   pub line-first : (s : List ℕ) → length ns < 7 → linesOf (lineOf letter ns ++ s) ≡ line (joined comma (fields letter ns)) ∷ linesOf s
   unfolding lineOf textOf wellSized if_then_else_
@@ -69,15 +65,6 @@ module _ (letter : ℕ) (ns : List ℕ) (high : 48 ≤ letter) (r : InRange ns) 
       let short : length body ≤ longest = omega (arith, line-length letter ns) in
       ap (λ (l : List ℕ). linesOf (l ++ s)) e ∙ ap linesOf (append-assoc body (LF ∷ []) s) ∙ lines
       ∙ rw (lt-ltb 0 (length body) some, le-leb (length body) longest short)
-
-  -- its kind, and the numbers in its fields
-  pub line-kind : (l count : ℕ) → isKind l count (joined comma (fields letter ns)) ≡ (eqb letter l && eqb (suc (length ns)) count)
-  unfolding isKind letterOf fieldOf fieldCount if_then_else_
-  line-kind l count = rw (line-fields, length-map ns decimal)
-
-  pub line-number : (k : ℕ) → numberIn (joined comma (fields letter ns)) (suc k) ≡ numberOf (getD (map decimal ns) k [])
-  unfolding numberIn fieldOf
-  line-number k = rw line-fields
 
 -- ---- the three kinds
 
@@ -92,34 +79,18 @@ unfolding requestsOf textRequest textOf wellSized indexOf if_then_else_
 empty-request s = rw (lines-part [] s refl)
 
 pub written-back : (r : Request) → InRange (valuesOf r) → (s : List ℕ) → requestsOf (written r ++ s) ≡ r ∷ requestsOf s
-unfolding written valuesOf requestOf motorOf inputOf scanOf motorFrom inputFrom scanFrom withValue if_then_else_
+unfolding written valuesOf
 written-back (Motor number ops1 ops2 w u) h s =
     let ns : List ℕ = number ∷ ops1 ∷ ops2 ∷ w ∷ u ∷ [] in
-    let f = line-number letter-M ns (omega arith) h in
     line-request letter-M ns s (omega arith) h (omega arith)
-    ∙ rw (
-      line-kind letter-M ns (omega arith) h letter-M 6,
-      f 0,
-      read-back number (h .0),
-      f 1,
-      read-back ops1 (h .1 .0),
-      f 2,
-      read-back ops2 (h .1 .1 .0),
-      f 3,
-      read-back w (h .1 .1 .1 .0),
-      f 4,
-      read-back u (h .1 .1 .1 .1 .0),
-    )
+    ∙ rw (motor-request _ _ _ _ _ number ops1 ops2 w u (fields-free letter-M ns (omega arith) h comma (omega arith)) (read-back number (h .0))
+    (read-back ops1 (h .1 .0)) (read-back ops2 (h .1 .1 .0)) (read-back w (h .1 .1 .1 .0)) (read-back u (h .1 .1 .1 .1 .0)))
 written-back (Input number word) h s =
     let ns : List ℕ = number ∷ word ∷ [] in
-    let k = line-kind letter-I ns (omega arith) h in
-    let f = line-number letter-I ns (omega arith) h in
     line-request letter-I ns s (omega arith) h (omega arith)
-    ∙ rw (k letter-M 6, k letter-I 3, f 0, read-back number (h .0), f 1, read-back word (h .1 .0))
+    ∙ rw (input-request _ _ number word (fields-free letter-I ns (omega arith) h comma (omega arith)) (read-back number (h .0)) (read-back word (h .1 .0)))
 written-back (Scan period) h s =
     let ns : List ℕ = period ∷ [] in
-    let k = line-kind letter-S ns (omega arith) h in
-    let f = line-number letter-S ns (omega arith) h in
     line-request letter-S ns s (omega arith) h (omega arith)
-    ∙ rw (k letter-M 6, k letter-I 3, k letter-S 2, f 0, read-back period (h .0))
+    ∙ rw (scan-request _ period (fields-free letter-S ns (omega arith) h comma (omega arith)) (read-back period (h .0)))
 written-back Refused h s = empty-request s

@@ -1,15 +1,16 @@
 -- Laws of the search for LF and of the lines of a file. Assumes nothing.
 use Prim.Native.Nat.{ℕ, suc, _+_, _-_, _<_, _≤_}
 use mathlib.Core.Path.{_≡_, refl, sym, ap, _∙_}
-use mathlib.Core.Bool.{Bool, true, false, _&&_, false≢true}
-use mathlib.Core.List.{List, [], _∷_, _++_}
+use mathlib.Core.Bool.{Bool, true, false}
+use mathlib.Core.List.{List, [], _∷_, _++_, map}
 use native.Mathlib.Omega.{arith}
 use native.Mathlib.Decide.{decLe, decLt}
 use lib.ListN.{length, take, drop, getD, length-drop, drop-of-length-le}
 use lib.Seq.{length-take-le, getD-drop, drop-drop}
-use lib.Dec.{leb, ltb}
-use borrow.Author.Tests.{ne-eqb, lt-ltb, le-ltb, ltb-true, ltb-false, leb-true}
+use lib.Dec.{ltb}
+use borrow.Author.Tests.{ne-eqb, lt-ltb, le-ltb, ltb-true, ltb-false}
 use Rattle.words.specs.Word.{if_then_else_}
+use Rattle.words.proofs.Laws.{both-le}
 use Rattle.sheet.specs.Split.{LF, split, indexOf, between}
 use Rattle.sheet.specs.Lines.{foundLF, longest, Text, line, faulty, wellSized, textOf, textsOf, linesOf, firstLine, lineAt}
 use Rattle.sheet.specs.declared.Found.{Found}
@@ -117,21 +118,23 @@ pub lines-none : linesOf [] ≡ []
 unfolding linesOf split textsOf if_then_else_
 lines-none = refl
 
-texts-more : (p : List ℕ) (ps : List (List ℕ)) → 0 < length ps → textsOf (p ∷ ps) ≡ textOf p ∷ textsOf ps
+pub texts-more : (ps qs : List (List ℕ)) → 0 < length qs → textsOf (ps ++ qs) ≡ map textOf ps ++ textsOf qs
 unfolding textsOf
-texts-more p [] h = absurd (omega arith)
-texts-more p (q ∷ ps) h = refl
+texts-more [] qs h = refl
+texts-more (p ∷ []) [] h = absurd (omega arith)
+texts-more (p ∷ []) (q ∷ qs) h = refl
+texts-more (p ∷ p′ ∷ ps) qs h = ap (λ (l : List Text). textOf p ∷ l) (texts-more (p′ ∷ ps) qs h)
 
 pub lines-hit : (s : List ℕ) → indexOf LF s < length s → linesOf s ≡ textOf (take (indexOf LF s) s) ∷ linesOf (drop (suc (indexOf LF s)) s)
 unfolding linesOf
 lines-hit s h =
     let rest : List ℕ = drop (suc (indexOf LF s)) s in
-    rw (split-hit LF s h) (texts-more (take (indexOf LF s) s) (split LF rest) (parts-pos LF rest))
+    rw (split-hit LF s h) (texts-more (take (indexOf LF s) s ∷ []) (split LF rest) (parts-pos LF rest))
 
 -- a line and its LF, in front of other lines
 pub lines-part : (l s : List ℕ) → indexOf LF l ≡ length l → linesOf (l ++ LF ∷ s) ≡ textOf l ∷ linesOf s
 unfolding linesOf
-lines-part l s h = rw (split-part LF l s h) (texts-more l (split LF s) (parts-pos LF s))
+lines-part l s h = rw (split-part LF l s h) (texts-more (l ∷ []) (split LF s) (parts-pos LF s))
 
 pub lines-open : (s : List ℕ) → 0 < length s → length s ≤ indexOf LF s → linesOf s ≡ faulty ∷ []
 unfolding linesOf textsOf if_then_else_
@@ -204,11 +207,7 @@ pub data Stands (file : List ℕ) (at : ℕ) : Line → Type 0 where
 
 sized : (n : ℕ) → wellSized n ≡ true → (0 < n) × (n ≤ longest)
 unfolding wellSized
-sized n e = go (ltb 0 n) refl e
-  where
-    go : (t : Bool) → ltb 0 n ≡ t → (t && leb n longest) ≡ true → (0 < n) × (n ≤ longest)
-    go true f g = (ltb-true 0 n f, leb-true n longest g)
-    go false f g = absurd (false≢true g)
+sized n e = both-le e
 
 pub stands : (file : List ℕ) (at : ℕ) → Stands file at (lineAt file at)
 stands file at = go (decLe (length file) at)

@@ -1,50 +1,25 @@
 -- The lines before an LF and those after it, and how many lines a file can have. Assumes nothing.
 use Prim.Native.Nat.{ℕ, suc, _<_, _≤_}
-use mathlib.Core.Path.{_≡_, refl, ap, _∙_}
+use mathlib.Core.Path.{_≡_, _∙_}
 use mathlib.Core.Bool.{Bool, true, false}
-use mathlib.Core.List.{List, [], _∷_, _++_, map, append-nil}
+use mathlib.Core.List.{List, [], _∷_, _++_, map, map-append, append-nil}
 use native.Mathlib.Omega.{arith}
 use lib.Dec.{eqb}
 use lib.ListN.{length, length-map}
-use borrow.Author.Tests.{eq-eqb, ne-eqb}
+use borrow.Author.Tests.{ne-eqb}
 use Rattle.words.specs.Word.{if_then_else_}
 use Rattle.sheet.specs.Split.{LF, split, joinFirst}
-use Rattle.sheet.specs.Lines.{Text, textOf, textsOf, linesOf}
+use Rattle.sheet.specs.Lines.{textOf, textsOf, linesOf}
 use Rattle.sheet.specs.Grammar.{textRequest, requestsOf}
 use Rattle.sheet.specs.declared.Request.{Request}
-use Rattle.sheet.proofs.SplitLaws.{parts-pos}
+use Rattle.sheet.proofs.SplitLaws.{parts-pos, split-more}
+use Rattle.sheet.proofs.LineLaws.{texts-more}
 
 -- ---- the lines before an LF, and those after it
-
-first-more : (x : ℕ) (ps qs : List (List ℕ)) → 0 < length ps → joinFirst x (ps ++ qs) ≡ joinFirst x ps ++ qs
-unfolding joinFirst
-first-more x [] qs h = absurd (omega arith)
-first-more x (p ∷ ps) qs h = refl
-
-split-more : (b : ℕ) (p q : List ℕ) → split b (p ++ b ∷ q) ≡ split b p ++ split b q
-unfolding split if_then_else_
-split-more b [] q = rw (eq-eqb b b refl)
-split-more b (x ∷ p) q = go (eqb x b) (split-more b p q)
-  where
-    go : (t : Bool) → split b (p ++ b ∷ q) ≡ split b p ++ split b q
-        → (if t then [] ∷ split b (p ++ b ∷ q) else joinFirst x (split b (p ++ b ∷ q))) ≡ (if t then [] ∷ split b p else joinFirst x (split b p)) ++ split b q
-    go true e = rw e
-    go false e = rw e (first-more x (split b p) (split b q) (parts-pos b p))
-
-texts-more : (ps qs : List (List ℕ)) → 0 < length qs → textsOf (ps ++ qs) ≡ map textOf ps ++ textsOf qs
-unfolding textsOf
-texts-more [] qs h = refl
-texts-more (p ∷ []) [] h = absurd (omega arith)
-texts-more (p ∷ []) (q ∷ qs) h = refl
-texts-more (p ∷ p′ ∷ ps) qs h = ap (λ (l : List Text). textOf p ∷ l) (texts-more (p′ ∷ ps) qs h)
 
 lines-more : (p q : List ℕ) → linesOf (p ++ LF ∷ q) ≡ map textOf (split LF p) ++ linesOf q
 unfolding linesOf
 lines-more p q = rw (split-more LF p q) (texts-more (split LF p) (split LF q) (parts-pos LF q))
-
-map-more : {A B : Type 0} (f : A → B) (xs ys : List A) → map f (xs ++ ys) ≡ map f xs ++ map f ys
-map-more f [] ys = refl
-map-more f (x ∷ xs) ys = rw (map-more f xs ys)
 
 -- the requests of the lines up to an LF
 unfoldable pub before : List ℕ → List Request
@@ -52,7 +27,7 @@ before p = map textRequest (map textOf (split LF p))
 
 pub requests-more : (p q : List ℕ) → requestsOf (p ++ LF ∷ q) ≡ before p ++ requestsOf q
 unfolding requestsOf before
-requests-more p q = rw (lines-more p q) (map-more textRequest (map textOf (split LF p)) (linesOf q))
+requests-more p q = rw (lines-more p q) (map-append textRequest (map textOf (split LF p)) (linesOf q))
 
 pub requests-whole : (p : List ℕ) → requestsOf (p ++ LF ∷ []) ≡ before p
 unfolding requestsOf linesOf split textsOf if_then_else_

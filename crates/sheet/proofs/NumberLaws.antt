@@ -1,15 +1,17 @@
 -- Laws of digits and the numbers that they say. Assumes nothing.
 use Prim.Native.Nat.{ℕ, suc, _+_, _-_, _*_, _<_, _≤_}
-use mathlib.Core.Path.{_≡_, refl, sym, _∙_}
-use mathlib.Core.Bool.{Bool, true, false, _&&_, _||_, false≢true}
-use mathlib.Core.List.{List, [], _∷_}
+use mathlib.Core.Path.{_≡_, refl, sym, ap, _∙_}
+use mathlib.Core.Bool.{Bool, true, false, _&&_, _||_, false≢true, and-true as and-one, and-false, and-assoc}
+use mathlib.Core.List.{List, [], _∷_, _++_}
 use native.Mathlib.Decide.{decLt}
 use native.Mathlib.Omega.{arith}
 use lib.ListN.{length, drop, getD, drop-of-length-le}
 use lib.Seq.{drop-cons}
 use lib.Dec.{eqb, leb, ltb}
-use borrow.Author.Tests.{le-leb, lt-leb, eq-eqb, ne-eqb, le-ltb, lt-ltb, leb-true, eqb-false}
+use borrow.Author.Tests.{le-leb, lt-leb, eq-eqb, ne-eqb, le-ltb, lt-ltb, leb-true, eqb-true, eqb-false}
 use Rattle.words.specs.Word.{if_then_else_}
+use Rattle.words.proofs.Laws.{and-true, both-le}
+use Rattle.sheet.specs.Split.{indexOf}
 use Rattle.sheet.specs.Number.{largest, isDigit, allDigits, valueFrom, digitsNumber, leadingZero, numberOf}
 use Rattle.sheet.specs.declared.Number.the-variants.{Value, Refused}
 
@@ -47,6 +49,38 @@ unfolding valueFrom
 value-grows v [] = omega arith
 value-grows v (b ∷ s) = omega (arith, value-grows (v * 10 + (b - 48)) s)
 
+-- ---- digits
+
+pub digit-range : (b : ℕ) → isDigit b ≡ true → (48 ≤ b) × (b ≤ 57)
+unfolding isDigit
+digit-range b e = both-le e
+
+-- one digit more at the end
+pub all-snoc : (s : List ℕ) (b : ℕ) → allDigits (s ++ b ∷ []) ≡ (allDigits s && isDigit b)
+unfolding allDigits
+all-snoc [] b = and-one (isDigit b)
+all-snoc (x ∷ s) b = ap (λ (t : Bool). isDigit x && t) (all-snoc s b) ∙ sym (and-assoc (isDigit x) (allDigits s) (isDigit b))
+
+pub value-more : (v : ℕ) (s : List ℕ) (b : ℕ) → valueFrom v (s ++ b ∷ []) ≡ valueFrom v s * 10 + (b - 48)
+unfolding valueFrom
+value-more v [] b = refl
+value-more v (x ∷ s) b = value-more (v * 10 + (x - 48)) s b
+
+pub first-digit : (s : List ℕ) → allDigits s ≡ true → 0 < length s → 48 ≤ getD s 0 0
+unfolding allDigits
+first-digit [] e h = absurd (omega arith)
+first-digit (x ∷ s) e h = digit-range x (and-true (isDigit x) (allDigits s) e .0) .0
+
+-- a byte that is no digit is not among them
+pub digits-free : (b : ℕ) (s : List ℕ) → isDigit b ≡ false → allDigits s ≡ true → indexOf b s ≡ length s
+unfolding indexOf allDigits if_then_else_
+digits-free b [] f e = refl
+digits-free b (x ∷ s) f e = let w = and-true (isDigit x) (allDigits s) e in go (eqb x b) refl (w .0) (digits-free b s f (w .1))
+  where
+    go : (t : Bool) → eqb x b ≡ t → isDigit x ≡ true → indexOf b s ≡ length s → (if t then 0 else suc (indexOf b s)) ≡ suc (length s)
+    go true g d ih = absurd (false≢true (sym f ∙ ap isDigit (sym (eqb-true x b g)) ∙ d))
+    go false g d ih = ap suc ih
+
 -- ---- what a field of digits says
 
 pub no-digits : (s : List ℕ) → allDigits s ≡ false → digitsNumber s ≡ Refused
@@ -55,11 +89,7 @@ no-digits s e = rw e
 
 pub too-large : (s : List ℕ) → largest < valueFrom 0 s → digitsNumber s ≡ Refused
 unfolding digitsNumber if_then_else_
-too-large s h = rw (lt-leb (valueFrom 0 s) largest h) (go (allDigits s))
-  where
-    go : (t : Bool) → (if t && false then Value (valueFrom 0 s) else Refused) ≡ Refused
-    go true = refl
-    go false = refl
+too-large s h = rw (lt-leb (valueFrom 0 s) largest h, and-false (allDigits s))
 
 pub in-range : (s : List ℕ) (v : ℕ) → allDigits s ≡ true → valueFrom 0 s ≡ v → v ≤ largest → digitsNumber s ≡ Value v
 unfolding digitsNumber if_then_else_
@@ -94,13 +124,9 @@ spells-number {n} {s} p h =
     let q = p .some in
     plain-number s (λ e. omega arith) (go (decLt 1 (length s))) ∙ in-range s n (p .digits) (p .value) h
   where
-    shut : (t : Bool) → (t && false) ≡ false
-    shut true = refl
-    shut false = refl
-
     go : Dec (1 < length s) → (eqb (getD s 0 0) 48 && ltb 1 (length s)) ≡ false
     go (yes l) = let q = p .plain l in rw (ne-eqb (getD s 0 0) 48 (λ e. omega arith))
-    go (no l) = rw (le-ltb 1 (length s) (omega arith)) (shut (eqb (getD s 0 0) 48))
+    go (no l) = rw (le-ltb 1 (length s) (omega arith)) (and-false (eqb (getD s 0 0) 48))
 
 -- the tests that led to a number
 tests : (e z d l : Bool) (v n : ℕ) → (if e || z then Refused else if d && l then Value v else Refused) ≡ Value n
@@ -113,14 +139,10 @@ tests false false false l v n e = let c : _≡_ {A = ℕ} 0 1 = cc in absurd (om
 tests false false true false v n e = let c : _≡_ {A = ℕ} 0 1 = cc in absurd (omega arith)
 
 no-zero : (s : List ℕ) → allDigits s ≡ true → leadingZero s ≡ false → 1 < length s → 48 < getD s 0 0
-unfolding allDigits isDigit leadingZero
-no-zero [] d z h = absurd (omega arith)
-no-zero (b ∷ s) d z h = go (leb 48 b) refl (eqb b 48) refl d (rw (lt-ltb 1 (suc (length s)) h) at z)
-  where
-    go : (t : Bool) → leb 48 b ≡ t → (u : Bool) → eqb b 48 ≡ u → (t && leb b 57 && allDigits s) ≡ true → (u && true) ≡ false → 48 < b
-    go true e false f d z = let g = leb-true 48 b e in omega (arith, eqb-false b 48 f)
-    go true e true f d z = absurd (false≢true (sym z))
-    go false e u f d z = absurd (false≢true d)
+unfolding leadingZero
+no-zero s d z h =
+    let n = eqb-false (getD s 0 0) 48 (sym (and-one (eqb (getD s 0 0) 48)) ∙ rw (lt-ltb 1 (length s) h) at z) in
+    omega (arith, first-digit s d (omega arith), n)
 
 pub number-spells : (s : List ℕ) (n : ℕ) → numberOf s ≡ Value n → Spells n s × (n ≤ largest)
 unfolding numberOf digitsNumber

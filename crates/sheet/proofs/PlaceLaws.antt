@@ -1,28 +1,28 @@
 -- Laws of bytes and numbers where they stand in a file: a line that is read there gives the request that the grammar says. Assumes nothing.
 use Prim.Native.Nat.{ℕ, suc, _+_, _-_, _*_, _<_, _≤_}
-use mathlib.Core.Path.{_≡_, refl, sym, ap, _∙_}
-use mathlib.Core.Bool.{Bool, true, false, false≢true}
+use mathlib.Core.Path.{_≡_, refl, sym, _∙_}
+use mathlib.Core.Bool.{true, false, false≢true}
 use mathlib.Core.List.{List, [], _∷_, _++_, append-assoc}
 use native.Mathlib.Nat.{add-zero}
 use native.Mathlib.Omega.{arith}
 use lib.ListN.{length, drop, getD, length-append, length-take, length-drop, take-append-drop}
 use lib.Seq.{length-take-le, drop-cons, take-suc, drop-drop, take-at, getD-drop, getD-take}
 use lib.Dec.{eqb, leb, ltb}
-use borrow.Author.Tests.{eq-eqb, eqb-true, lt-ltb, ltb-true, leb-true}
+use borrow.Author.Tests.{eq-eqb, eqb-true, lt-ltb, ltb-true}
 use Rattle.words.proofs.Laws.{and-true}
 use Rattle.words.specs.Word.{if_then_else_}
 use Rattle.sheet.specs.Split.{LF, comma, joined, indexOf, between, fieldOf, fieldCount}
 use Rattle.sheet.specs.Lines.{longest, line, wellSized, textOf, firstLine, lineAt}
 use Rattle.sheet.specs.Number.{largest, isDigit, allDigits, valueFrom, digitsNumber, leadingZero, numberOf}
-use Rattle.sheet.specs.Grammar.{letter-I, letter-S, letterOf, isKind, numberIn, withValue, inputFrom, scanFrom, inputOf, scanOf, requestOf, takenAt, nextAt}
+use Rattle.sheet.specs.Grammar.{letter-M, letter-I, letter-S, letterOf, isKind, numberIn, withValue, motorFrom, inputFrom, scanFrom, motorOf, inputOf, scanOf, requestOf, takenAt, nextAt}
 use Rattle.sheet.specs.Places.{isAt, isDigitAt, beginsWith, endsLine, NumberAt}
 use Rattle.sheet.specs.declared.Number.the-variants.{Value}
 use Rattle.sheet.specs.declared.Line.the-variants.{Until}
-use Rattle.sheet.specs.declared.Request.the-variants.{Input, Scan}
+use Rattle.sheet.specs.declared.Request.the-variants.{Motor, Input, Scan}
 use Rattle.sheet.specs.declared.Next.the-variants.{Taken}
 use Rattle.sheet.proofs.SplitLaws.{Free, free-none, free-more, split-joined, free-joined}
 use Rattle.sheet.proofs.LineLaws.{lines-part}
-use Rattle.sheet.proofs.NumberLaws.{spells-number, number-spells}
+use Rattle.sheet.proofs.NumberLaws.{digit-range, all-snoc, value-more, first-digit, digits-free, spells-number, number-spells}
 
 -- ---- a byte at a place
 
@@ -39,10 +39,6 @@ other-at file at b e h f = false≢true (sym e ∙ rw (lt-ltb at (length file) h
 drop-byte : (file : List ℕ) (at b : ℕ) → isAt file at b ≡ true → drop at file ≡ b ∷ drop (suc at) file
 drop-byte file at b e = let w = byte-at file at b e in drop-cons file at 0 (w .0) ∙ rw (w .1)
 
-digit-range : (b : ℕ) → isDigit b ≡ true → (48 ≤ b) × (b ≤ 57)
-unfolding isDigit
-digit-range b e = let w = and-true (leb 48 b) (leb b 57) e in (leb-true 48 b (w .0), leb-true b 57 (w .1))
-
 pub record DigitAt (file : List ℕ) (at : ℕ) : Type 0 where
   pub inside : at < length file
   pub is : isDigit (getD file at 0) ≡ true
@@ -58,36 +54,10 @@ digit-at file at e =
 
 -- ---- digits
 
--- one digit more
-digits-more : (s : List ℕ) (b : ℕ) → allDigits s ≡ true → isDigit b ≡ true → allDigits (s ++ b ∷ []) ≡ true
-unfolding allDigits
-digits-more [] b e f = rw f
-digits-more (x ∷ s) b e f = let w = and-true (isDigit x) (allDigits s) e in rw (w .0) (digits-more s b (w .1) f)
-
-value-more : (v : ℕ) (s : List ℕ) (b : ℕ) → valueFrom v (s ++ b ∷ []) ≡ valueFrom v s * 10 + (b - 48)
-unfolding valueFrom
-value-more v [] b = refl
-value-more v (x ∷ s) b = value-more (v * 10 + (x - 48)) s b
-
 some-digit : (s : List ℕ) → (valueFrom 0 s ≡ 0 → ⊥) → 0 < length s
 unfolding valueFrom
 some-digit [] n = absurd (n refl)
 some-digit (x ∷ s) n = omega arith
-
-first-digit : (s : List ℕ) → allDigits s ≡ true → 0 < length s → 48 ≤ getD s 0 0
-unfolding allDigits
-first-digit [] e h = absurd (omega arith)
-first-digit (x ∷ s) e h = digit-range x (and-true (isDigit x) (allDigits s) e .0) .0
-
--- a byte that is no digit is not among them
-digits-free : (b : ℕ) (s : List ℕ) → isDigit b ≡ false → allDigits s ≡ true → indexOf b s ≡ length s
-unfolding indexOf allDigits if_then_else_
-digits-free b [] f e = refl
-digits-free b (x ∷ s) f e = let w = and-true (isDigit x) (allDigits s) e in go (eqb x b) refl (w .0) (digits-free b s f (w .1))
-  where
-    go : (t : Bool) → eqb x b ≡ t → isDigit x ≡ true → indexOf b s ≡ length s → (if t then 0 else suc (indexOf b s)) ≡ suc (length s)
-    go true g d ih = absurd (false≢true (sym f ∙ ap isDigit (sym (eqb-true x b g)) ∙ d))
-    go false g d ih = ap suc ih
 
 -- ---- the bytes between two places
 
@@ -133,7 +103,7 @@ module _ (file : List ℕ) (at : ℕ) where
       record {
         from = omega (arith, d .from);
         within = omega (arith, d .from, w .inside);
-        digits = rw p (digits-more (between at i file) (getD file i 0) (d .digits) (w .is));
+        digits = rw (p, all-snoc (between at i file) (getD file i 0), d .digits, w .is);
         says = rw (p, value-more 0 (between at i file) (getD file i 0), d .says);
       }
 
@@ -222,15 +192,21 @@ module _ (file l : List ℕ) (at end : ℕ) (parts : drop at file ≡ l ++ drop 
 
 -- ---- the requests of the two kinds of lines
 
-scan-request : (d : List ℕ) (value : ℕ) → Free comma ((letter-S ∷ []) ∷ d ∷ []) → numberOf d ≡ Value value
+pub scan-request : (d : List ℕ) (value : ℕ) → Free comma ((letter-S ∷ []) ∷ d ∷ []) → numberOf d ≡ Value value
     → requestOf (joined comma ((letter-S ∷ []) ∷ d ∷ [])) ≡ Scan value
 unfolding requestOf isKind letterOf fieldOf fieldCount scanOf scanFrom numberIn withValue if_then_else_
 scan-request d value f e = rw (split-joined f, e)
 
-input-request : (d g : List ℕ) (number word : ℕ) → Free comma ((letter-I ∷ []) ∷ d ∷ g ∷ []) → numberOf d ≡ Value number
+pub input-request : (d g : List ℕ) (number word : ℕ) → Free comma ((letter-I ∷ []) ∷ d ∷ g ∷ []) → numberOf d ≡ Value number
     → numberOf g ≡ Value word → requestOf (joined comma ((letter-I ∷ []) ∷ d ∷ g ∷ [])) ≡ Input number word
 unfolding requestOf isKind letterOf fieldOf fieldCount inputOf inputFrom numberIn withValue if_then_else_
 input-request d g number word f e h = rw (split-joined f, e, h)
+
+pub motor-request : (a b c d e : List ℕ) (number ops1 ops2 w u : ℕ) → Free comma ((letter-M ∷ []) ∷ a ∷ b ∷ c ∷ d ∷ e ∷ []) → numberOf a ≡ Value number
+    → numberOf b ≡ Value ops1 → numberOf c ≡ Value ops2 → numberOf d ≡ Value w → numberOf e ≡ Value u
+    → requestOf (joined comma ((letter-M ∷ []) ∷ a ∷ b ∷ c ∷ d ∷ e ∷ [])) ≡ Motor number ops1 ops2 w u
+unfolding requestOf isKind letterOf fieldOf fieldCount motorOf motorFrom numberIn withValue if_then_else_
+motor-request a b c d e number ops1 ops2 w u f g h i j k = rw (split-joined f, g, h, i, j, k)
 
 comma-no-lf : comma ≡ LF → ⊥
 comma-no-lf e = omega arith

@@ -11,6 +11,7 @@ use lib.Seq.{drop-cons, take-all, take-nil}
 use lib.Dec.{eqb}
 use borrow.Author.Tests.{eq-eqb, ne-eqb, eqb-true, eqb-false}
 use Rattle.words.specs.Word.{if_then_else_}
+use Rattle.words.proofs.Laws.{either}
 use Rattle.sheet.specs.Split.{comma, split, joinFirst, joined, indexOf, between, fieldOf}
 
 -- ---- the first b
@@ -29,13 +30,9 @@ unfolding indexOf
 index-past b s i h = rw (drop-of-length-le s h)
 
 pub index-le : (b : ℕ) (s : List ℕ) → indexOf b s ≤ length s
-unfolding indexOf if_then_else_
+unfolding indexOf
 index-le b [] = omega arith
-index-le b (x ∷ s) = go (eqb x b) (index-le b s)
-  where
-    go : (t : Bool) → indexOf b s ≤ length s → (if t then 0 else suc (indexOf b s)) ≤ suc (length s)
-    go true h = omega arith
-    go false h = omega arith
+index-le b (x ∷ s) = either (λ (n : ℕ). n ≤ suc (length s)) _ (omega arith) (omega (arith, index-le b s))
 
 -- it is a b, and there is none before it
 pub index-is : (b : ℕ) (s : List ℕ) → indexOf b s < length s → getD s (indexOf b s) 0 ≡ b
@@ -116,16 +113,25 @@ joined-split b (x ∷ s) = go (eqb x b) refl (split b s) (parts-pos b s) (joined
     go false e (p ∷ []) h f = ap (λ (l : List ℕ). x ∷ l) f
     go false e (p ∷ q ∷ ps) h f = ap (λ (l : List ℕ). x ∷ l) f
 
+-- the parts before a b, and those after it
+first-more : (x : ℕ) (ps qs : List (List ℕ)) → 0 < length ps → joinFirst x (ps ++ qs) ≡ joinFirst x ps ++ qs
+unfolding joinFirst
+first-more x [] qs h = absurd (omega arith)
+first-more x (p ∷ ps) qs h = refl
+
+pub split-more : (b : ℕ) (p q : List ℕ) → split b (p ++ b ∷ q) ≡ split b p ++ split b q
+unfolding split if_then_else_
+split-more b [] q = rw (eq-eqb b b refl)
+split-more b (x ∷ p) q = go (eqb x b) (split-more b p q)
+  where
+    go : (t : Bool) → split b (p ++ b ∷ q) ≡ split b p ++ split b q
+        → (if t then [] ∷ split b (p ++ b ∷ q) else joinFirst x (split b (p ++ b ∷ q))) ≡ (if t then [] ∷ split b p else joinFirst x (split b p)) ++ split b q
+    go true e = rw e
+    go false e = rw e (first-more x (split b p) (split b q) (parts-pos b p))
+
 -- parts without a b are the parts of what they make
 pub split-part : (b : ℕ) (p s : List ℕ) → indexOf b p ≡ length p → split b (p ++ b ∷ s) ≡ p ∷ split b s
-unfolding split indexOf if_then_else_ joinFirst
-split-part b [] s h = rw (eq-eqb b b refl)
-split-part b (x ∷ p) s h = go (eqb x b) h (split-part b p s)
-  where
-    go : (t : Bool) → (if t then 0 else suc (indexOf b p)) ≡ suc (length p) → (indexOf b p ≡ length p → split b (p ++ b ∷ s) ≡ p ∷ split b s)
-        → (if t then [] ∷ split b (p ++ b ∷ s) else joinFirst x (split b (p ++ b ∷ s))) ≡ (x ∷ p) ∷ split b s
-    go true e ih = absurd (omega arith)
-    go false e ih = rw (ih (omega arith))
+split-part b p s h = split-more b p s ∙ rw (split-none b p (omega arith))
 
 -- no b in any of the parts
 pub data Free (b : ℕ) : List (List ℕ) → Type 0 where
@@ -206,7 +212,7 @@ unfolding between
 between-last n s = take-all (length s - n) (drop n s) (omega (arith, length-drop n s))
 
 -- a count may be cut to the length
-take-cut : (m n : ℕ) (l : List ℕ) → m ≡ min n (length l) → take m l ≡ take n l
+pub take-cut : {A : Type 0} (m n : ℕ) (l : List A) → m ≡ min n (length l) → take m l ≡ take n l
 take-cut m n l e = go (decLe n (length l))
   where
     go : Dec (n ≤ length l) → take m l ≡ take n l
