@@ -2,10 +2,10 @@
 -- Assumes nothing.
 use mathlib.Core.Path.{_≡_, refl, sym, ap, _∙_, subst}
 use mathlib.Core.Bool.{Bool}
-use Prim.Native.Nat.{ℕ, zero, suc, _+_, _-_, _*_, _/_, _%_, _^_, _<_, _≤_}
+use Prim.Native.Nat.{ℕ, _+_, _-_, _*_, _/_, _%_, _^_, _<_, _≤_}
 use native.Mathlib.Nat.{add-zero, mod-lt}
 use native.Mathlib.Omega.{arith}
-use lib.Dec.{eqb, lit<, lit≤}
+use lib.Dec.{eqb, lit<}
 use lib.Bits.{bitAnd, bitOr, and-high}
 use lib.Count.{ones, trailingZeros, ones-cat}
 use Rattle.words.specs.Word.{if_then_else_, bitOf, isSet, rose, without}
@@ -13,6 +13,7 @@ use Rattle.words.proofs.Laws.{risen-is}
 use Rattle.rules.specs.declared.Status.{Status}
 use Rattle.rules.specs.Record.{repair, reserve, work, bitRisen}
 use Rattle.rules.specs.Steps.{modesRisen, modeAsked}
+use Rattle.status.proofs.Tables.{agree-at}
 
 -- how many of three bits there are, and the mode of the lowest
 howMany : Bool → Bool → Bool → ℕ
@@ -29,15 +30,14 @@ record Says (q : ℕ) : Type 0 where
 
 says : (q : ℕ) → q < 8 → Says q
 unfolding howMany lowest if_then_else_ ones trailingZeros
-says zero h = record { many = refl; least = lit≤ tt; low = refl }
-says (suc zero) h = record { many = refl; least = lit≤ tt; low = refl }
-says (suc (suc zero)) h = record { many = refl; least = lit≤ tt; low = refl }
-says (suc (suc (suc zero))) h = record { many = refl; least = lit≤ tt; low = refl }
-says (suc (suc (suc (suc zero)))) h = record { many = refl; least = lit≤ tt; low = refl }
-says (suc (suc (suc (suc (suc zero))))) h = record { many = refl; least = lit≤ tt; low = refl }
-says (suc (suc (suc (suc (suc (suc zero)))))) h = record { many = refl; least = lit≤ tt; low = refl }
-says (suc (suc (suc (suc (suc (suc (suc zero))))))) h = record { many = refl; least = lit≤ tt; low = refl }
-says (suc (suc (suc (suc (suc (suc (suc (suc q)))))))) h = absurd (omega arith)
+says q h =
+    let last : trailingZeros 32 (bitOr (q * 512) 2048) ≡ 9 + lowest (eqb (q % 2) 1) (eqb (q / 2 % 2) 1) =
+    agree-at (λ q. trailingZeros 32 (bitOr (q * 512) 2048)) (λ q. 9 + lowest (eqb (q % 2) 1) (eqb (q / 2 % 2) 1)) 8 refl q h in
+    record {
+      many = agree-at ones (λ q. howMany (eqb (q % 2) 1) (eqb (q / 2 % 2) 1) (eqb (q / 4 % 2) 1)) 8 refl q h;
+      least = omega arith;
+      low = omega arith;
+    }
 
 -- of the masked risen word x
 pub record Counted (v : Status) (word x : ℕ) : Type 0 where

@@ -12,6 +12,7 @@ use lib.ListN.{length, getD, set, take}
 use lib.Seq.{take-all, getD-take, length-take-le}
 use borrow.Author.Tests.{eqb-true, not-false, eq-eqb, lt-ltb, le-ltb}
 use Rattle.words.specs.Word.{if_then_else_}
+use Rattle.words.proofs.Laws.{either, if-lt}
 use Rattle.rules.specs.Refusals.{mostMotors, misfit, inRange, periodOk, wordOk, allOk, oneAfter, tableRefusal, stepAll, tableAfter, partRefusal}
 use Rattle.rules.proofs.Tables.{or-false, allOk-suc, accepted, each-accepted, one-accepted, none-stepped, not-yet, one-more, length-stepAll}
 use Rattle.rules.specs.declared.Motor.{Motor}
@@ -31,11 +32,8 @@ code-more true true false true w = refl
 code-more true true true true w = refl
 
 code-fits : (x q y : Bool) → code x q y < 2 ^ 32
-unfolding if_then_else_ code
-code-fits false q y = lit< tt
-code-fits true false y = lit< tt
-code-fits true true false = lit< tt
-code-fits true true true = lit< tt
+unfolding code
+code-fits x q y = if-lt _ (lit< tt) (if-lt _ (lit< tt) (if-lt _ (lit< tt) (lit< tt)))
 
 -- ---- the first pass: the refusal once i records are tested. Each lemma is by the outcome z of the test of the lengths
 module _ (ms : List Motor) (ws : List ℕ) (p : ℕ) where
@@ -71,11 +69,6 @@ module _ (ms : List Motor) (ws : List ℕ) (p : ℕ) where
   end-by true e i l = refl
   end-by false e i l = rw (take-all i ms l, take-all i ws (rw (same-length e) at l))
 
-  fits-by : (z : Bool) (i : ℕ) → codeBy z i < 2 ^ 32
-  unfolding if_then_else_ codeBy
-  fits-by true i = lit< tt
-  fits-by false i = code-fits (allOk inRange (take i ms)) (periodOk p) (allOk wordOk (take i ws))
-
   pub code-start : firstCode N K p ≡ codeAt 0
   unfolding firstCode codeAt codeBy code allOk if_then_else_
   code-start = refl
@@ -93,8 +86,8 @@ module _ (ms : List Motor) (ws : List ℕ) (p : ℕ) where
   code-end i l = end-by (misfit N K) refl i l
 
   pub code-small : (i : ℕ) → codeAt i < 2 ^ 32
-  unfolding codeAt
-  code-small i = fits-by (misfit N K) i
+  unfolding codeAt codeBy
+  code-small i = if-lt _ (lit< tt) (code-fits _ _ _)
 
   -- ---- the second pass: the table once j records are stepped. Each lemma is by whether the table is accepted
   abbrev pub R : ℕ
@@ -126,11 +119,6 @@ module _ (ms : List Motor) (ws : List ℕ) (p : ℕ) where
   last-by true e j l = rw (take-all j ws (rw (accepted ms ws p (eqb-true R 0 e) .lengths) at l))
   last-by false e j l = refl
 
-  length-by : (z : Bool) (j : ℕ) → length (tableBy z j) ≡ N
-  unfolding if_then_else_ tableBy
-  length-by true j = length-stepAll ms (take j ws) p
-  length-by false j = refl
-
   pub table-start : ms ≡ tableAt 0
   unfolding tableAt
   table-start = start-by (eqb R 0)
@@ -148,8 +136,8 @@ module _ (ms : List Motor) (ws : List ℕ) (p : ℕ) where
   table-end j l = last-by (eqb R 0) refl j l
 
   pub table-length : (j : ℕ) → length (tableAt j) ≡ N
-  unfolding tableAt
-  table-length j = length-by (eqb R 0) j
+  unfolding tableAt tableBy
+  table-length j = either (λ (ns : List Motor). length ns ≡ N) _ (length-stepAll ms (take j ws) p) refl
 
 -- ---- the first pass over the first n records of an array
 module _ (ms : List Motor) (ws : List ℕ) (n p : ℕ) (few : n ≤ mostMotors) (l : n ≤ length ms) (k : n ≤ length ws) where

@@ -25,35 +25,11 @@ returns : tie.Need-returns Inv-loop μ-loop
 unfolding mostMotors
 returns c = sym (part-too-many _ _ _ _ (c .if1 .taken))
 
-first-code-requires : tie.Need-first-code-requires Inv-loop μ-loop
-first-code-requires c κs = search needs
-
 loop-holds : tie.Need-loop-holds Inv-loop μ-loop
 unfolding mostMotors
 loop-holds c =
     let e = c .before .before in
     (omega arith, c .first-code .ensures ∙ part-start (e .args .t1) (e .args .t3) (e .args .count) (e .args .period) (c .before .if1 .left) (omega (arith, records-are e, c .before .if1 .left)) (omega (arith, words-are e, c .before .if1 .left)))
-
-mul-m : tie.Need-mul-m Inv-loop μ-loop
-mul-m c = omega (arith, c .before .before .before .if1 .left)
-
-array-copy-out-m : tie.Need-array-copy-out-m Inv-loop μ-loop
-array-copy-out-m c = omega (arith, c .before .before .before .if1 .left)
-
-mul-next-code : tie.Need-mul-next-code Inv-loop μ-loop
-mul-next-code c = omega (arith, c .before .before .before .before .if1 .left)
-
-array-read-next-code : tie.Need-array-read-next-code Inv-loop μ-loop
-array-read-next-code c = omega (arith, c .before .before .before .before .if1 .left)
-
-next-code-requires : tie.Need-next-code-requires Inv-loop μ-loop
-next-code-requires c κs = search needs
-
-add-i : tie.Need-add-i Inv-loop μ-loop
-add-i c = omega (arith, c .before .before .before .before .before .if1 .left)
-
-loop-less : tie.Need-loop-less Inv-loop μ-loop
-loop-less c = omega arith
 
 loop-again : tie.Need-loop-again Inv-loop μ-loop
 unfolding mostMotors
@@ -74,4 +50,4 @@ returns-2 c =
     l .inv .1 ∙ rw i (part-end (e .args .t1) (e .args .t3) (e .args .count) (e .args .period) few (omega (arith, records-are e, few)) (omega (arith, words-are e, few)))
 
 pub refusal-array-spec : {M : Type 1} → statement M
-refusal-array-spec = tie.close (tie.spec Inv-loop μ-loop returns first-code-requires loop-holds mul-m array-copy-out-m mul-next-code array-read-next-code next-code-requires add-i loop-less loop-again returns-2)
+refusal-array-spec = tie.close (tie.spec Inv-loop μ-loop returns (λ c κs. search needs) loop-holds (λ c. omega (arith, c .before .before .before .if1 .left)) (λ c. omega (arith, c .before .before .before .if1 .left)) (λ c. omega (arith, c .before .before .before .before .if1 .left)) (λ c. omega (arith, c .before .before .before .before .if1 .left)) (λ c κs. search needs) (λ c. omega (arith, c .before .before .before .before .before .if1 .left)) (λ c. omega arith) loop-again returns-2)

@@ -9,9 +9,6 @@ use Rattle.rules.specs.Steps.{candidate, firstOf, chosen}
 use Rattle.status.proofs.Tables.{first-from, first-none}
 use Rattle.status.proofs.choice.choice.Statement.{statement}
 use Rattle.status.proofs.choice.choice.Tie as tie
-use Rattle.status.proofs.choice.choice.Reads as reads
-use Rattle.status.proofs.choice.choice.Lts as lts
-use Rattle.status.proofs.choice.is_candidate.Reads as is-candidate-reads
 
 abbrev Inv-loop : tie.InvT-loop
 Inv-loop s v word c₀ c = (1 ≤ c) × (c ≤ 8) × (chosen s v word ≡ firstOf (candidate s v word) (drop (c - 1) commands))
@@ -23,20 +20,11 @@ loop-holds : tie.Need-loop-holds Inv-loop μ-loop
 unfolding chosen
 loop-holds c = (omega arith, omega arith, refl)
 
-is-candidate-requires : tie.Need-is-candidate-requires Inv-loop μ-loop
-is-candidate-requires c κs = search needs
-
 returns : tie.Need-returns Inv-loop μ-loop
 unfolding if_then_else_
 returns c =
     let l = c .before .before .before .loop in
     sym (l .inv .2 ∙ first-from _ (l .c) (l .inv .0) (c .before .before .loop-test .taken) ∙ rw (sym (c .before .is-candidate .ensures) ∙ c .if1 .taken) refl)
-
-add-c : tie.Need-add-c Inv-loop μ-loop
-add-c c = omega arith
-
-loop-less : tie.Need-loop-less Inv-loop μ-loop
-loop-less c = omega (arith, c .before .before .loop-test .taken)
 
 loop-again : tie.Need-loop-again Inv-loop μ-loop
 unfolding if_then_else_
@@ -61,9 +49,9 @@ choice-spec =
     Inv-loop
     μ-loop
     loop-holds
-    is-candidate-requires
+    (λ c κs. search needs)
     returns
-    add-c
-    loop-less
+    (λ c. omega arith)
+    (λ c. omega (arith, c .before .before .loop-test .taken))
     loop-again
     returns-2)
