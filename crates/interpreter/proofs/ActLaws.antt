@@ -5,18 +5,19 @@ use mathlib.Core.Bool.{not, _&&_}
 use mathlib.Core.List.{List, [], _∷_, _++_}
 use native.Mathlib.Omega.{arith}
 use native.Mathlib.Numerals.{add-one}
-use native.Mathlib.Decide.{decLe}
+use native.Mathlib.Nat.{min-le-right}
 use lib.Dec.{leb, ltb, lit<}
 use lib.ListN.{length, take, set, length-take}
-use lib.Seq.{take-all, take-suc-set, take-set-lt}
-use borrow.Author.Tests.{eq-eqb, ne-eqb, leb-true, leb-false, le-ltb, not-false}
+use lib.Seq.{take-suc-set, take-set-lt}
+use borrow.Author.Tests.{eq-eqb, ne-eqb, leb-false, le-ltb, not-false}
 use Rattle.words.specs.Word.{if_then_else_}
 use Rattle.rules.specs.declared.Motor.{Motor}
 use Rattle.rules.specs.declared.Settings.{Settings}
 use Rattle.rules.specs.Record.{fresh}
 use Rattle.rules.specs.Refusals.{mostMotors, settingsInRange, partRefusal, partAfter}
-use Rattle.words.proofs.Laws.{and-true}
+use Rattle.words.proofs.Laws.{both-le}
 use Rattle.rules.proofs.Tables.{if-zero, part-front, length-part}
+use Rattle.sheet.proofs.SplitLaws.{take-cut}
 use Rattle.sheet.specs.declared.Request.{Request}
 use Rattle.sheet.specs.declared.Request.the-variants.{Motor as M, Input as I, Scan as S}
 use Rattle.interpreter.specs.State.{State, nextNumber, motorRefusal, withMotor, isThere, inputRefusal, withWords, withWord, scanRefusal, withScan, refusalFor, changed, stateAfter, viewOf}
@@ -45,9 +46,7 @@ motor-room held scans number s h =
 pub input-there : (held number word : ℕ) → inputRefusal held number word ≡ 0 → (1 ≤ number) × (number ≤ held)
 unfolding inputRefusal isThere
 input-there held number word h =
-    let a = if-zero (not (leb 1 number && leb number held)) 10 _ (lit< tt) h in
-    let b = and-true (leb 1 number) (leb number held) (not-false _ (a .0)) in
-    (leb-true 1 number (b .0), leb-true number held (b .1))
+    both-le (not-false _ (if-zero (not (leb 1 number && leb number held)) 10 _ (lit< tt) h .0))
 
 -- ---- the elements of an array that are in use
 
@@ -59,11 +58,11 @@ module _ {A : Type 0} (n : ℕ) (l : List A) (is : length l ≡ 32) where
   -- more than are there are all
   pub take-used : take n l ≡ take (min n mostMotors) l
   unfolding mostMotors
-  take-used = go (decLe n 32)
-    where
-      go : Dec (n ≤ 32) → take n l ≡ take (min n 32) l
-      go (yes h) = let e : n ≡ min n 32 = omega arith in ap (λ (k : ℕ). take k l) e
-      go (no h) = take-all n l (omega arith) ∙ sym (take-all (min n 32) l (omega arith))
+  take-used = sym (take-cut (min n 32) n l (ap (min n) (sym is)))
+
+  pub in-array : n ≤ mostMotors → n ≤ length l
+  unfolding mostMotors
+  in-array h = omega arith
 
   pub one-more : (x : A) → min n mostMotors < mostMotors → take (min n mostMotors + 1) (set l (min n mostMotors) x) ≡ take n l ++ (x ∷ [])
   unfolding mostMotors
@@ -97,13 +96,6 @@ module _ (b : Bench) (is : length (b .motors) ≡ 32) (js : length (b .words) �
   unfolding changed withWord withWords
   word-state number word h l = rw (take-set-lt (b .count) (b .words) (number - 1) word (omega arith))
 
-  few : min (b .count) mostMotors ≤ mostMotors
-  few = omega arith
-
-  in-array : min (b .count) mostMotors ≤ 32
-  unfolding mostMotors
-  in-array = omega arith
-
   pub scan-refusal : (period : ℕ) → partRefusal (b .motors) (min (b .count) mostMotors) (b .words) period ≡ refusalFor (viewOf b) (S period)
   unfolding refusalFor scanRefusal partRefusal mostMotors if_then_else_
   scan-refusal period = rw (le-ltb 32 (min (b .count) 32) (omega arith), ← take-used (b .count) (b .motors) is, ← take-used (b .count) (b .words) js)
@@ -115,14 +107,13 @@ module _ (b : Bench) (is : length (b .motors) ≡ 32) (js : length (b .words) �
   scan-state period =
       rw (
         take-used (b .count) (partAfter (b .motors) (min (b .count) mostMotors) (b .words) period) (length-part (b .motors) (min (b .count) mostMotors) (b .words) period ∙ is),
-        part-front (b .motors) (min (b .count) mostMotors) (b .words) period few (rw is in-array),
+        part-front (b .motors) (min (b .count) mostMotors) (b .words) period (min-le-right (b .count) mostMotors) (in-array _ (b .motors) is (min-le-right (b .count) mostMotors)),
         ← take-used (b .count) (b .motors) is,
         ← take-used (b .count) (b .words) js,
       )
 
   -- the same, as a scan of the parts answers it
-  pub scanned-state : (period refusal : ℕ) (records : List Motor) → refusal ≡ partRefusal (b .motors) (min (b .count) mostMotors) (b .words) period
-      → records ≡ partAfter (b .motors) (min (b .count) mostMotors) (b .words) period → refusal ≡ 0
+  pub scanned-state : (period : ℕ) {records : List Motor} → partRefusal (b .motors) (min (b .count) mostMotors) (b .words) period ≡ 0
+      → records ≡ partAfter (b .motors) (min (b .count) mostMotors) (b .words) period
       → viewOf (record { motors = records; words = b .words; count = b .count; scans = nextNumber (b .scans) }) ≡ stateAfter (viewOf b) (S period)
-  scanned-state period refusal records e f z =
-      rw f (scan-state period) ∙ sym (accepted (viewOf b) (S period) (sym (scan-refusal period) ∙ sym e ∙ z))
+  scanned-state period ok f = rw f (scan-state period) ∙ sym (accepted (viewOf b) (S period) (sym (scan-refusal period) ∙ ok))

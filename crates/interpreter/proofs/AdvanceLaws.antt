@@ -1,16 +1,16 @@
 -- How the lines that were taken advance the print. Assumes nothing.
 use Prim.Native.Nat.{ℕ, _+_, _-_, _<_, _≤_, min}
 use mathlib.Core.Path.{_≡_, refl, sym, ap, _∙_}
-use mathlib.Core.Bool.{Bool, true, false, _&&_}
+use mathlib.Core.Bool.{Bool, true, false, _&&_, true≢false}
 use mathlib.Core.List.{List, [], _++_, append-nil}
 use native.Mathlib.Omega.{arith}
 use lib.Dec.{leb}
 use lib.ListN.{length, take, length-append}
-use borrow.Author.Tests.{leb-true, leb-false, lt-ltb, le-ltb}
+use borrow.Author.Tests.{leb-false, lt-ltb, le-ltb}
 use Rattle.words.specs.Word.{if_then_else_}
 use Rattle.rules.specs.Refusals.{mostMotors, partRefusal, partAfter}
 use Rattle.rules.specs.declared.Motor.{Motor}
-use Rattle.words.proofs.Laws.{and-true}
+use Rattle.words.proofs.Laws.{both-le}
 use Rattle.rules.proofs.Tables.{length-part}
 use Rattle.sheet.specs.declared.Request.{Request}
 use Rattle.sheet.specs.declared.Request.the-variants.{Motor as M, Input as I, Scan as S, Refused}
@@ -126,9 +126,10 @@ module _ {file : List ℕ} {s : Sitting} {out : List ℕ} {to last : ℕ} where
 
   -- a line more
   scans-line-of : {here : Sitting} {after later : List ℕ} {n : ℕ} {t : Advanced} → Scans file s out to last after (record { sitting = here; to = n })
-      → n ≤ last → last + mostPut ≤ length out → here .at < t .sitting .at → t .sitting .at ≤ length file → Advance file here after n later t
+      → n ≤ last → last + mostPut ≤ length out → t .sitting .at ≤ length file → Advance file here after n later t
       → Scans file s out to last later t
-  scans-line-of r h room further within a =
+  scans-line-of r h room within a =
+      let far = a .further in
       record {
         piece = r .piece ++ a .piece;
         put = and-then (r .put) (a .put);
@@ -156,21 +157,20 @@ module _ {file : List ℕ} {s : Sitting} {out : List ℕ} {to last : ℕ} where
         }
 
     -- a run of I lines and an S line more: `records` are the motors after its scan
-    pub scans-more : (i : Inputs) {period next refusal m : ℕ} {records : List Motor} {later : List ℕ} → length (here .bench .motors) ≡ 32
+    pub scans-more : (i : Inputs) {period next m : ℕ} {records : List Motor} {later : List ℕ} → length (here .bench .motors) ≡ 32
         → length (here .bench .words) ≡ 32 → Run file (min (here .bench .count) mostMotors) (here .bench .words) (here .at) (here .line) i
-        → nextAt file (i .at) ≡ Taken (S period) next → refusal ≡ partRefusal (here .bench .motors) (min (here .bench .count) mostMotors) (i .words) period
-        → records ≡ partAfter (here .bench .motors) (min (here .bench .count) mostMotors) (i .words) period → refusal ≡ 0 → n ≤ last → last + mostPut ≤ length out
+        → nextAt file (i .at) ≡ Taken (S period) next → partRefusal (here .bench .motors) (min (here .bench .count) mostMotors) (i .words) period ≡ 0
+        → records ≡ partAfter (here .bench .motors) (min (here .bench .count) mostMotors) (i .words) period → n ≤ last → last + mostPut ≤ length out
         → Put after n (rowsOf (nextNumber (here .bench .scans)) 1 (take (here .bench .count) records)) later m
         → Scans file s out to last later
         (standing (record { motors = records; words = i .words; count = here .bench .count; scans = nextNumber (here .bench .scans) }) next (nextNumber (i .line)) m)
     unfolding answerOf
-    scans-more i {period} {next} {refusal} {m} {records} is js run found e f z h room p =
+    scans-more i {period} {next} {m} {records} is js run found ok f h room p =
         let b = afterRun here i .bench in
-        let line = taken-step file (i .at) (S period) next found in
         let js₁ = run .size ∙ js in
-        scans-line-of (scans-inputs i is run) h room (line .further) (line .within)
-        (goes-on {s = afterRun here i} found (record { refusal = refusal; bench = record { motors = records; words = i .words; count = here .bench .count; scans = nextNumber (here .bench .scans) } })
-        (e ∙ scan-refusal b is js₁ period) (scanned-state b is js₁ period refusal records e f z) (ap length f ∙ length-part (here .bench .motors) (min (here .bench .count) mostMotors) (i .words) period ∙ is) z p)
+        scans-line-of (scans-inputs i is run) h room (taken-step file (i .at) (S period) next found .within)
+        (goes-on {s = afterRun here i} found (record { refusal = 0; bench = record { motors = records; words = i .words; count = here .bench .count; scans = nextNumber (here .bench .scans) } })
+        (sym ok ∙ scan-refusal b is js₁ period) (scanned-state b is js₁ period ok f) (ap length f ∙ length-part (here .bench .motors) (min (here .bench .count) mostMotors) (i .words) period ∙ is) refl p)
 
 -- ---- a buffer filled line by line
 
@@ -192,9 +192,7 @@ module _ {file : List ℕ} {s : Sitting} {out : List ℕ} where
   module _ {here : Sitting} {after : List ℕ} {to : ℕ} (f : Filling file s out here after to) where
     -- lines are left, and room for a piece more
     pub taken : (leb (here .at) (length file) && leb to (length out - mostPut)) ≡ true → (here .at ≤ length file) × (to ≤ length out - mostPut)
-    taken t =
-        let b = and-true (leb (here .at) (length file)) (leb to (length out - mostPut)) t in
-        (leb-true (here .at) (length file) (b .0), leb-true to (length out - mostPut) (b .1))
+    taken t = both-le t
 
     pub room-left : (leb (here .at) (length file) && leb to (length out - mostPut)) ≡ true → mostPut ≤ length out → Room after to (length out - mostPut)
     room-left t room = record { begins = taken t .1; holds = omega (arith, put-length (f .put)) }
@@ -215,9 +213,8 @@ module _ {file : List ℕ} {s : Sitting} {out : List ℕ} where
     -- a run, and one line more
     pub filling-more : {between later : List ℕ} {q r : Advanced} → Scans file here after to (length out - mostPut) between q
         → q .to ≤ length out - mostPut → Advance file (q .sitting) between (q .to) later r
-        → (leb (here .at) (length file) && leb to (length out - mostPut)) ≡ true → mostPut ≤ length out → Filling file s out (r .sitting) later (r .to)
-    filling-more c under a t room =
-        let b = taken t in
+        → mostPut ≤ length out → Filling file s out (r .sitting) later (r .to)
+    filling-more c under a room =
         let more = and-then (c .put) (a .put) in
         let long = length-append (f .done) (c .piece ++ a .piece) in
         let longer = length-append (c .piece) (a .piece) in
@@ -243,6 +240,6 @@ module _ {file : List ℕ} {s : Sitting} {out : List ℕ} where
       where
         go : s .at ≤ length file → (a : Bool) → leb (here .at) (length file) ≡ a → (b : Bool) → leb to (length out - mostPut) ≡ b → (a && b) ≡ false
             → s .at < here .at
-        go l true p true q e = absurd (let z : _≡_ {A = Bool} true false = e in let y : _≡_ {A = ℕ} 0 1 = cc in omega arith)
+        go l true p true q e = absurd (true≢false e)
         go l true p false q e = f .moved (omega (arith, leb-false to (length out - mostPut) q))
         go l false p b q e = omega (arith, leb-false (here .at) (length file) p)

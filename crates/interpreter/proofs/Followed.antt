@@ -1,12 +1,12 @@
 -- Every motor of a bench that began empty is one that demand 3 follows: it was fresh when its M line added it, and each accepted S line
 -- since is a scan of the whole table with the words that the motors held. Assumes nothing.
-use Prim.Native.Nat.{ℕ, zero, suc, _<_}
+use Prim.Native.Nat.{ℕ, _<_}
 use mathlib.Core.Path.{_≡_, refl, sym, ap, _∙_}
 use mathlib.Core.Bool.{Bool, true, false}
-use mathlib.Core.List.{List, [], _∷_, _++_}
+use mathlib.Core.List.{List, [], _∷_, _++_, map, map-append}
 use native.Mathlib.Omega.{arith}
 use lib.Dec.{eqb}
-use lib.ListN.{length, getD}
+use lib.ListN.{length, getD, length-map, List·getD-map}
 use borrow.Author.Tests.{eqb-true}
 use Rattle.words.specs.Word.{if_then_else_}
 use Rattle.rules.specs.declared.Settings.{Settings}
@@ -45,26 +45,17 @@ unfoldable pub ordersFrom : Log Order → State → List Request → Log Order
 ordersFrom os t [] = os
 ordersFrom os t (r ∷ rs) = ordersFrom (if eqb (refusalFor t r) 0 then ordered os t r else os) (stateAfter t r) rs
 
-unfoldable pub freshOnes : List Settings → List Motor
-freshOnes [] = []
-freshOnes (s ∷ ss) = fresh s ∷ freshOnes ss
-
 -- ---- the motors are what the scans make of fresh ones
 
 record Run (t : State) (ss : List Settings) (os : Log Order) : Type 0 where
-  motors : t .motors ≡ tableRun (freshOnes ss) os
+  motors : t .motors ≡ tableRun (map fresh ss) os
   unscanned : t .scans ≡ 0 → os ≡ none
-
-fresh-more : (ss : List Settings) (s : Settings) → freshOnes (ss ++ (s ∷ [])) ≡ freshOnes ss ++ (fresh s ∷ [])
-unfolding freshOnes
-fresh-more [] s = refl
-fresh-more (x ∷ ss) s = ap (λ (l : List Motor). fresh x ∷ l) (fresh-more ss s)
 
 run-on : {t : State} {ss : List Settings} {os : Log Order} (r : Request) → refusalFor t r ≡ 0 → Run t ss os → Run (changed t r) (added ss r) (ordered os t r)
 unfolding refusalFor changed withMotor withWord withWords withScan nextNumber added ordered tableRun scanned
 run-on {ss = ss} (M number ops1 ops2 w u) h a =
     let z = a .unscanned (motor-first _ _ _ _ h) in
-    record { motors = rw (z, fresh-more) (ap (λ (l : List Motor). l ++ (fresh (record { ops1 = ops1; ops2 = ops2; w = w; u = u }) ∷ [])) (rw z at (a .motors))); unscanned = λ e. z }
+    record { motors = rw (z, map-append fresh ss) (ap (λ (l : List Motor). l ++ (fresh (record { ops1 = ops1; ops2 = ops2; w = w; u = u }) ∷ [])) (rw z at (a .motors))); unscanned = λ e. z }
 run-on (I number word) h a = record { motors = a .motors; unscanned = a .unscanned }
 run-on (S period) h a = record { motors = rw (a .motors) refl; unscanned = λ e. absurd (omega arith) }
 run-on Refused h a = a
@@ -88,32 +79,22 @@ abbrev pub ordersOf : List Request → Log Order
 ordersOf rs = ordersFrom none emptyState rs
 
 started : Run emptyState [] none
-unfolding emptyState tableRun freshOnes
+unfolding emptyState tableRun
 started = record { motors = refl; unscanned = λ e. refl }
 
-pub motors-run : (rs : List Request) → statesAfter emptyState rs .motors ≡ tableRun (freshOnes (settingsOf rs)) (ordersOf rs)
+pub motors-run : (rs : List Request) → statesAfter emptyState rs .motors ≡ tableRun (map fresh (settingsOf rs)) (ordersOf rs)
 motors-run rs = run-through emptyState rs started .motors
 
 -- and demand 3 holds of each motor
 abbrev unset : Settings
 unset = record { ops1 = 0; ops2 = 0; w = 0; u = 0 }
 
-fresh-at : (ss : List Settings) (j : ℕ) → j < length ss → getD (freshOnes ss) j nobody ≡ fresh (getD ss j unset)
-unfolding freshOnes
-fresh-at [] j h = absurd (omega arith)
-fresh-at (s ∷ ss) zero h = refl
-fresh-at (s ∷ ss) (suc j) h = fresh-at ss j (omega arith)
-
-length-fresh : (ss : List Settings) → length (freshOnes ss) ≡ length ss
-unfolding freshOnes
-length-fresh [] = refl
-length-fresh (s ∷ ss) = ap suc (length-fresh ss)
-
 pub each-followed : (rs : List Request) (j : ℕ) → j < length (settingsOf rs)
-    → Followed (freshOnes (settingsOf rs)) j (getD (settingsOf rs) j unset) (ordersOf rs)
+    → Followed (map fresh (settingsOf rs)) j (getD (settingsOf rs) j unset) (ordersOf rs)
+unfolding nobody
 each-followed rs j h =
     let ss = settingsOf rs in
-    followed (freshOnes ss) j (getD ss j unset) (omega (arith, length-fresh ss)) (fresh-at ss j h) (ordersOf rs)
+    followed (map fresh ss) j (getD ss j unset) (omega (arith, length-map ss fresh)) (List·getD-map fresh ss j unset) (ordersOf rs)
 
 -- ---- so it is of a bench at any place that the lines of a file lead to
 

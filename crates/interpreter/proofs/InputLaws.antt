@@ -34,7 +34,7 @@ word-kept words number word held h e =
 
 module _ {file words₀ : List ℕ} {held at₀ line₀ : ℕ} where
   pub run-none : Run file held words₀ at₀ line₀ (record { words = words₀; at = at₀; line = line₀ })
-  run-none = record { through = λ t count e f. none; size = refl; right = λ l e. e; onward = omega arith; within = λ l. l }
+  run-none = record { through = λ t count e f. none; size = refl; right = λ e. e; onward = omega arith; within = λ l. l }
 
   -- one line more
   module _ {words : List ℕ} {at line number word next : ℕ} (r : Run file held words₀ at₀ line₀ (record { words = words; at = at; line = line })) (found : nextAt file at ≡ Taken (I number word) next) (h : inputRefusal held number word ≡ 0) where
@@ -52,7 +52,7 @@ module _ {file words₀ : List ℕ} {held at₀ line₀ : ℕ} where
         record {
           through = line-more;
           size = length-set words (number - 1) word ∙ r .size;
-          right = λ l e. word-kept words number word held h (r .right l e);
+          right = λ e. word-kept words number word held h (r .right e);
           onward = omega (arith, r .onward, s .further);
           within = λ l. s .within;
         }

@@ -1,6 +1,6 @@
 -- From an empty bench on, through any requests, the table's scan has nothing to refuse but the period: the order of S is 5, 2.
 -- Assumes nothing.
-use Prim.Native.Nat.{ℕ, zero, suc, _+_, _-_, _<_, _≤_}
+use Prim.Native.Nat.{ℕ, zero, suc, _-_, _≤_}
 use mathlib.Core.Path.{_≡_, refl, sym, _∙_}
 use mathlib.Core.Bool.{Bool, true, false, not, _&&_}
 use mathlib.Core.List.{List, [], _∷_, _++_}
@@ -14,7 +14,7 @@ use Rattle.rules.specs.declared.Settings.{Settings}
 use Rattle.rules.specs.Record.{fresh}
 use Rattle.rules.specs.Refusals.{mostMotors, settingsInRange, inRange, periodOk, wordOk, allOk, misfit, tableRefusal, stepAll, tableAfter}
 use Rattle.rules.proofs.Range.{range-kept, fresh-in-range}
-use Rattle.words.proofs.Laws.{and-true}
+use Rattle.words.proofs.Laws.{and-true, either}
 use Rattle.rules.proofs.Tables.{if-zero, length-after}
 use Rattle.sheet.specs.declared.Request.{Request}
 use Rattle.sheet.specs.declared.Request.the-variants.{Motor as M, Input as I, Scan as S, Refused}
@@ -48,12 +48,8 @@ steps-in-range (m ∷ ms) (w ∷ ws) period e f =
     both-true (range-kept m w period (a .0) (b .0)) (steps-in-range ms ws period (a .1) (b .1))
 
 pub after-in-range : (ms : List Motor) (ws : List ℕ) (period : ℕ) → allOk inRange ms ≡ true → allOk wordOk ws ≡ true → allOk inRange (tableAfter ms ws period) ≡ true
-unfolding tableAfter if_then_else_
-after-in-range ms ws period e f = go (eqb (tableRefusal ms ws period) 0)
-  where
-    go : (b : Bool) → allOk inRange (if b then stepAll ms ws period else ms) ≡ true
-    go true = steps-in-range ms ws period e f
-    go false = e
+unfolding tableAfter
+after-in-range ms ws period e f = either (λ (ns : List Motor). allOk inRange ns ≡ true) _ (steps-in-range ms ws period e f) e
 
 -- ---- what every request keeps
 

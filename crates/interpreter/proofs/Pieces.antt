@@ -5,14 +5,13 @@ use mathlib.Core.Path.{_≡_, refl, sym, ap, _∙_}
 use mathlib.Core.Bool.{Bool, true, false}
 use mathlib.Core.List.{List, [], _∷_, _++_, append-nil}
 use native.Mathlib.Omega.{arith}
-use lib.ListN.{length, take, drop}
-use lib.Seq.{take-at}
+use lib.ListN.{length, take}
 use lib.Dec.{ltb}
 use borrow.Author.Tests.{ltb-true, ltb-false}
 use Rattle.words.specs.Word.{if_then_else_}
-use Rattle.report.specs.Put.{Put}
+use Rattle.words.proofs.Laws.{either}
 use Rattle.report.specs.Print.{refusalOf}
-use Rattle.report.proofs.PutLaws.{exact-list, exact-place}
+use Rattle.report.proofs.PutLaws.{front}
 use Rattle.report.proofs.PrintLaws.{refusal-length}
 use Rattle.interpreter.specs.State.{emptyState, viewOf}
 use Rattle.interpreter.specs.Print.{tooLong, printOf}
@@ -57,22 +56,13 @@ calls-end (ended h) = omega arith
 calls-end (one-buffer h m f c) = omega (arith, f .further m h, calls-end c)
 
 -- what `fill` leaves at the start of the buffer, up to the place that it answers, is its piece
-front : {piece out after : List ℕ} {n : ℕ} → length piece ≤ length out → Put out 0 piece after n → take n after ≡ piece
-front {piece} {out} h p =
-    let room : 0 + length piece ≤ length out = omega arith in
-    rw (exact-list room p, exact-place room p) (take-at piece (drop (0 + length piece) out) (0 + length piece) (omega arith))
-
 pub fill-exact : {file out after : List ℕ} {s : Sitting} {r : Advanced} (f : Fill file s out after r) → take (r .to) after ≡ f .piece
 fill-exact f = front (f .fits) (f .put)
 
 -- and so is what `begin` leaves, in a buffer with room for it
 opening-short : (file : List ℕ) → length (opening file) ≤ mostPut
-unfolding opening tooLong if_then_else_
-opening-short file = go (ltb 65536 (length file))
-  where
-    go : (z : Bool) → length (if z then refusalOf 0 1 else []) ≤ mostPut
-    go true = omega (arith, refusal-length 0 1)
-    go false = omega arith
+unfolding opening
+opening-short file = either (λ (l : List ℕ). length l ≤ mostPut) _ (omega (arith, refusal-length 0 1)) (omega arith)
 
 pub begin-exact : {file out after : List ℕ} {r : Advanced} → Begin file out 0 after r → mostPut ≤ length out → take (r .to) after ≡ opening file
 begin-exact {file} b h = front (omega (arith, opening-short file)) (b .put)

@@ -31,10 +31,6 @@ rows-last scan n (x ∷ ms) m =
     let e : n + 1 + length ms ≡ n + suc (length ms) = omega arith in
     rw (rows-last scan (n + 1) ms m, append-assoc, e)
 
-pub no-rows : (scan n : ℕ) → rowsOf scan n [] ≡ []
-unfolding rowsOf
-no-rows scan n = refl
-
 -- one motor more
 pub rows-more : (scan i : ℕ) (ms : List Motor) (d : Motor) → i < length ms
     → rowsOf scan 1 (take (i + 1) ms) ≡ rowsOf scan 1 (take i ms) ++ rowOf (motorRow scan (i + 1) (getD ms i d))

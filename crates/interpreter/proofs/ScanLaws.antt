@@ -1,8 +1,9 @@
 -- A scan taken motor by motor, each printed as it is scanned: how that comes to the scan of the table. Assumes nothing.
 use Prim.Native.Nat.{ℕ, _+_, _<_, _≤_, min}
 use mathlib.Core.Path.{_≡_, refl, sym, ap, _∙_}
-use mathlib.Core.Bool.{Bool, true, false, false≢true}
+use mathlib.Core.Bool.{true, false, false≢true}
 use mathlib.Core.List.{List, [], _∷_}
+use native.Mathlib.Nat.{min-le-right}
 use native.Mathlib.Omega.{arith}
 use native.Mathlib.Numerals.{add-one}
 use lib.ListN.{length, getD, set, take, length-set}
@@ -22,7 +23,7 @@ use types.Run.{OneOf, miss}
 use denote.Enum.Declared.{tagOf}
 use Rattle.sheet.proofs.Request.{the-type}
 use Rattle.sheet.specs.declared.Request.{Request}
-use Rattle.sheet.specs.declared.Request.the-variants.{Motor as M, Input as I, Scan as S, Refused}
+use Rattle.sheet.specs.declared.Request.the-variants.{Scan as S}
 use Rattle.sheet.specs.declared.Next.{Next}
 use Rattle.sheet.specs.declared.Next.the-variants.{Taken, Done}
 use Rattle.report.specs.Put.{Put}
@@ -37,15 +38,15 @@ use Rattle.interpreter.specs.declared.Sitting.{Sitting}
 use Rattle.interpreter.specs.declared.Advanced.{Advanced}
 use Rattle.interpreter.specs.declared.inputs.Inputs.{Inputs}
 use Rattle.sheet.specs.Grammar.{nextAt}
-use Rattle.interpreter.proofs.ActLaws.{take-used, scan-refusal}
-use Rattle.interpreter.proofs.PrintLaws.{no-rows, rows-more}
+use Rattle.interpreter.proofs.ActLaws.{take-used, in-array, scan-refusal}
+use Rattle.interpreter.proofs.PrintLaws.{rows-more}
 use Rattle.interpreter.proofs.Kept.{after-in-range}
 use Rattle.interpreter.proofs.AdvanceLaws.{standing, scans-more}
 
 -- ---- one motor
 
 -- at rest
-pub rested : (m : Motor) (word period : ℕ) → oneRefusal m word period ≡ 0 → rests (m .settings) (m .status) (m .output) word ≡ true
+rested : (m : Motor) (word period : ℕ) → oneRefusal m word period ≡ 0 → rests (m .settings) (m .status) (m .output) word ≡ true
     → withStatus m (restedStatus (m .settings) (m .status) word) ≡ step m word period
 unfolding wordOk
 rested m word period h e =
@@ -64,33 +65,25 @@ module _ (ms : List Motor) (i : ℕ) (m : Motor) (word period : ℕ) (ok : oneRe
 -- ---- the motors in use
 
 module _ (motors : List Motor) (words : List ℕ) (held : ℕ) (few : held ≤ mostMotors) (is : length motors ≡ 32) (js : length words ≡ 32) where
-  pub few-motors : held ≤ length motors
-  unfolding mostMotors
-  few-motors = omega arith
-
-  pub few-words : held ≤ length words
-  unfolding mostMotors
-  few-words = omega arith
-
   module _ (records : allOk inRange (take held motors) ≡ true) (right : allOk wordOk (take held words) ≡ true) (period : ℕ) (time : periodOk period ≡ true) where
     -- each is accepted by itself
-    pub due : (i : ℕ) (d : Motor) → i < held → oneRefusal (getD motors i d) (getD words i 0) period ≡ 0
+    due : (i : ℕ) (d : Motor) → i < held → oneRefusal (getD motors i d) (getD words i 0) period ≡ 0
     due i d l =
         one-accepts (getD motors i d) (getD words i 0) period
-        (sym (ap inRange (getD-take held motors i d l)) ∙ allOk-at inRange (take held motors) i d records (omega (arith, length-take-le held motors few-motors)))
+        (sym (ap inRange (getD-take held motors i d l)) ∙ allOk-at inRange (take held motors) i d records (omega (arith, length-take-le held motors (in-array held motors is few))))
         time
-        (sym (ap wordOk (getD-take held words i 0 l)) ∙ allOk-at wordOk (take held words) i 0 right (omega (arith, length-take-le held words few-words)))
+        (sym (ap wordOk (getD-take held words i 0 l)) ∙ allOk-at wordOk (take held words) i 0 right (omega (arith, length-take-le held words (in-array held words js few))))
 
     -- and so is the table of them
-    pub all-due : partRefusal motors held words period ≡ 0
+    all-due : partRefusal motors held words period ≡ 0
     unfolding partRefusal tableRefusal misfit if_then_else_
     all-due =
-        let a = length-take-le held motors few-motors in
-        let b = length-take-le held words few-words in
+        let a = length-take-le held motors (in-array held motors is few) in
+        let b = length-take-le held words (in-array held words js few) in
         rw (le-ltb mostMotors held few, eq-eqb (length (take held motors)) (length (take held words)) (a ∙ sym b), le-ltb mostMotors (length (take held motors)) (omega (arith, a)), records, right, time)
 
-    pub range-kept : allOk inRange (take held (partAfter motors held words period)) ≡ true
-    range-kept = rw (part-front motors held words period few few-motors) (after-in-range (take held motors) (take held words) period records right)
+    range-kept : allOk inRange (take held (partAfter motors held words period)) ≡ true
+    range-kept = rw (part-front motors held words period few (in-array held motors is few)) (after-in-range (take held motors) (take held words) period records right)
 
 -- ---- the first i motors are scanned and printed
 
@@ -100,14 +93,15 @@ pub record Scanning (motors₀ : List Motor) (words : List ℕ) (period scans : 
 
 module _ {motors₀ : List Motor} {words : List ℕ} {period scans : ℕ} {out₀ : List ℕ} {to₀ : ℕ} where
   pub scanning-none : Scanning motors₀ words period scans out₀ to₀ motors₀ out₀ to₀ 0
-  scanning-none = record { records = sym (none-stepped motors₀ period); put = rw no-rows put-none }
+  unfolding rowsOf
+  scanning-none = record { records = sym (none-stepped motors₀ period); put = put-none }
 
   module _ {motors : List Motor} {out : List ℕ} {to i : ℕ} (s : Scanning motors₀ words period scans out₀ to₀ motors out to i) where
     -- the next one stands as it was
     pub waiting : (d : Motor) → getD motors i d ≡ getD motors₀ i d
     waiting d = rw (s .records) (not-yet motors₀ words period i d)
 
-    pub same-size : length motors ≡ length motors₀
+    same-size : length motors ≡ length motors₀
     same-size = rw (s .records) (length-stepAll motors₀ (take i words) period)
 
     -- it is scanned and printed
@@ -124,7 +118,7 @@ module _ {motors₀ : List Motor} {words : List ℕ} {period scans : ℕ} {out�
         }
 
     -- all are
-    pub scanned : {held : ℕ} → i ≡ held → partRefusal motors₀ held words period ≡ 0 → motors ≡ partAfter motors₀ held words period
+    scanned : {held : ℕ} → i ≡ held → partRefusal motors₀ held words period ≡ 0 → motors ≡ partAfter motors₀ held words period
     scanned {held} e h = s .records ∙ ap (λ (k : ℕ). stepAll motors₀ (take k words) period) e ∙ sym (part-stepped motors₀ held words period h)
 
 -- ---- a bench of which a scan is accepted
@@ -134,13 +128,10 @@ unfolding periodOk
 one-right = refl
 
 module _ (b : Bench) (is : length (b .motors) ≡ 32) (js : length (b .words) ≡ 32) where
-  pub accepting : (period : ℕ) → refusalFor (viewOf b) (S period) ≡ 0
+  accepting : (period : ℕ) → refusalFor (viewOf b) (S period) ≡ 0
       → Accepted (take (min (b .count) mostMotors) (b .motors)) (take (min (b .count) mostMotors) (b .words)) period
   unfolding refusalFor scanRefusal
   accepting period h = rw (← take-used (b .count) (b .motors) is, ← take-used (b .count) (b .words) js) (accepted (take (b .count) (b .motors)) (take (b .count) (b .words)) period h)
-
-  few-held : min (b .count) mostMotors ≤ mostMotors
-  few-held = omega arith
 
   -- where one of period 1 is, records and words are in range
   pub ready-if : partRefusal (b .motors) (min (b .count) mostMotors) (b .words) 1 ≡ 0
@@ -151,7 +142,7 @@ module _ (b : Bench) (is : length (b .motors) ≡ 32) (js : length (b .words) �
   pub unready : (period : ℕ) → (partRefusal (b .motors) (min (b .count) mostMotors) (b .words) 1 ≡ 0 → ⊥) → refusalFor (viewOf b) (S period) ≡ 0 → ⊥
   unready period n h =
       let a = accepting period h in
-      n (all-due (b .motors) (b .words) (min (b .count) mostMotors) few-held is js (a .records) (a .words) 1 one-right)
+      n (all-due (b .motors) (b .words) (min (b .count) mostMotors) (min-le-right (b .count) mostMotors) is js (a .records) (a .words) 1 one-right)
 
   -- none is with a period out of range
   pub untimely : (period : ℕ) → periodOk period ≡ false → refusalFor (viewOf b) (S period) ≡ 0 → ⊥
@@ -160,24 +151,21 @@ module _ (b : Bench) (is : length (b .motors) ≡ 32) (js : length (b .words) �
 -- ---- a run of I lines and an S line, whose motors are all scanned and printed
 
 module _ {file : List ℕ} {s : Sitting} {out : List ℕ} {to last : ℕ} {here : Sitting} {after : List ℕ} {n : ℕ} (r : Scans file s out to last after (record { sitting = here; to = n })) (i : Inputs) (is : length (here .bench .motors) ≡ 32) (js : length (here .bench .words) ≡ 32) (ready : Ready here) (run : Run file (min (here .bench .count) mostMotors) (here .bench .words) (here .at) (here .line) i) where
-  held : ℕ
+  abbrev held : ℕ
   held = min (here .bench .count) mostMotors
 
   few : held ≤ mostMotors
-  unfolding held
-  few = omega arith
+  few = min-le-right (here .bench .count) mostMotors
 
   js₁ : length (i .words) ≡ 32
   js₁ = run .size ∙ js
 
   right : allOk wordOk (take held (i .words)) ≡ true
-  unfolding held
-  right = run .right (few-words (here .bench .motors) (here .bench .words) (min (here .bench .count) mostMotors) (omega arith) is js) (ready .words)
+  right = run .right (ready .words)
 
   module _ (period next : ℕ) (found : nextAt file (i .at) ≡ Taken (S period) next) (time : periodOk period ≡ true) where
     -- each motor in use is accepted
     pub each-due : (k : ℕ) (d : Motor) → k < min (here .bench .count) mostMotors → oneRefusal (getD (here .bench .motors) k d) (getD (i .words) k 0) period ≡ 0
-    unfolding held
     each-due k d l = due (here .bench .motors) (i .words) held few is js₁ (ready .records) right period time k d l
 
     module _ {motors : List Motor} {later : List ℕ} {m k : ℕ} (all : k ≡ min (here .bench .count) mostMotors) (scan : Scanning (here .bench .motors) (i .words) period (nextNumber (here .bench .scans)) after n motors later m k) where
@@ -185,11 +173,9 @@ module _ {file : List ℕ} {s : Sitting} {out : List ℕ} {to last : ℕ} {here 
       afterScan = standing (record { motors = motors; words = i .words; count = here .bench .count; scans = nextNumber (here .bench .scans) }) next (nextNumber (i .line)) m
 
       accepted-scan : partRefusal (here .bench .motors) held (i .words) period ≡ 0
-      unfolding held
       accepted-scan = all-due (here .bench .motors) (i .words) held few is js₁ (ready .records) right period time
 
       all-scanned : motors ≡ partAfter (here .bench .motors) held (i .words) period
-      unfolding held
       all-scanned = scanned scan all accepted-scan
 
       size : length motors ≡ 32
@@ -197,43 +183,23 @@ module _ {file : List ℕ} {s : Sitting} {out : List ℕ} {to last : ℕ} {here 
 
       pub line-scanned : n ≤ last → last + mostPut ≤ length out
           → (length motors ≡ 32) × (length (i .words) ≡ 32) × Ready (afterScan .sitting) × Scans file s out to last later afterScan
-      unfolding held
       line-scanned h room = (
         size,
         js₁,
         record { records = rw all-scanned (range-kept (here .bench .motors) (i .words) held few is js₁ (ready .records) right period time); words = right },
-        scans-more r i is js run found (sym accepted-scan) all-scanned refl h room (rw (take-used (here .bench .count) motors size, ← all) (scan .put)),
+        scans-more r i is js run found accepted-scan all-scanned h room (rw (take-used (here .bench .count) motors size, ← all) (scan .put)),
       )
 
 -- ---- which line stands at a place
 
-requestIn : Next → Request
-requestIn (Taken r next) = r
-requestIn Done = Refused
-
-isScan : Request → Bool
-isScan (S period) = true
-isScan (M number ops1 ops2 w u) = false
-isScan (I number word) = false
-isScan Refused = false
-
-periodIn : Request → ℕ
-periodIn (S period) = period
-periodIn (M number ops1 ops2 w u) = 0
-periodIn (I number word) = 0
-periodIn Refused = 0
-
 -- no line
 pub no-line : {period next : ℕ} → _≡_ {A = Next} Done (Taken (S period) next) → ⊥
-unfolding requestIn isScan
-no-line e = false≢true (ap (λ (n : Next). isScan (requestIn n)) e)
+no-line e = let z : _≡_ {A = ℕ} 0 1 = cc in omega arith
 
 -- a line of another kind, by its tag
 pub other-kind : {r : Request} {next period next′ : ℕ} → OneOf (0 ∷ 1 ∷ 3 ∷ []) (tagOf the-type r) → Taken r next ≡ Taken (S period) next′ → ⊥
-unfolding requestIn
-other-kind {r} {next} {period} o e = let f : r ≡ S period = ap requestIn e in miss (0 ∷ 1 ∷ 3 ∷ []) 2 tt (rw f at o)
+other-kind {r} {next} {period} o e = let f : r ≡ S period = cc in miss (0 ∷ 1 ∷ 3 ∷ []) 2 tt (rw f at o)
 
 -- an S line of this period
 pub same-period : {period next period′ next′ : ℕ} → Taken (S period) next ≡ Taken (S period′) next′ → period ≡ period′
-unfolding requestIn periodIn
-same-period e = ap (λ (n : Next). periodIn (requestIn n)) e
+same-period e = cc

@@ -10,6 +10,7 @@ use native.Mathlib.Numerals.{add-one}
 use lib.ListN.{length, length-append}
 use borrow.Author.Tests.{eqb-true, eqb-false, ltb-false}
 use Rattle.words.specs.Word.{if_then_else_}
+use Rattle.words.proofs.Laws.{either}
 use Rattle.rules.specs.declared.Motor.{Motor}
 use Rattle.rules.specs.declared.Settings.{Settings}
 use Rattle.rules.specs.Refusals.{settingsInRange, tableAfter}
@@ -168,13 +169,9 @@ rows-counted {t} n (one-more {r = r} {rs = rs} h a) l e =
 -- ---- a file that is not too long has so few lines that every number is exact
 
 few-accepted : (t : State) (rs : List Request) → length (accepteds t rs) ≤ length rs
-unfolding accepteds if_then_else_
+unfolding accepteds
 few-accepted t [] = omega arith
-few-accepted t (r ∷ rs) = go (eqb (refusalFor t r) 0) (few-accepted (changed t r) rs)
-  where
-    go : (b : Bool) → length (accepteds (changed t r) rs) ≤ length rs → length (if b then r ∷ accepteds (changed t r) rs else []) ≤ suc (length rs)
-    go true e = omega arith
-    go false e = omega arith
+few-accepted t (r ∷ rs) = either (λ (qs : List Request). length qs ≤ suc (length rs)) _ (omega (arith, few-accepted (changed t r) rs)) (omega arith)
 
 line-exact : (k : ℕ) (rs : List Request) → k + length rs ≤ 4294967295 → lineAfter k rs ≡ k + length rs
 unfolding lineAfter nextNumber
@@ -184,11 +181,11 @@ line-exact k (r ∷ rs) l =
     rw e (line-exact (k + 1) rs (omega arith) ∙ (omega arith))
 
 -- After n accepted scans there are n times the motors of rows, and the E line has the number of the line after the accepted ones.
-pub record Numbered (file : List ℕ) (rs : List Request) : Type 0 where
+pub record Numbered (rs : List Request) : Type 0 where
   pub rows : length (allRows emptyState rs) ≡ statesAfter emptyState rs .scans * length (statesAfter emptyState rs .motors)
   pub line : lineAfter 1 rs ≡ 1 + length rs
 
-pub numbered : (file : List ℕ) → length file ≤ 65536 → Numbered file (accepteds emptyState (requestsOf file))
+pub numbered : (file : List ℕ) → length file ≤ 65536 → Numbered (accepteds emptyState (requestsOf file))
 unfolding emptyState Counted
 numbered file h =
     let rs = accepteds emptyState (requestsOf file) in

@@ -30,7 +30,7 @@ pub record Run (file : List ℕ) (held : ℕ) (words : List ℕ) (at line : ℕ)
       → Through file (record { at = at; state = withWords t (take count words); line = line }) []
       (record { at = r .at; state = withWords t (take count (r .words)); line = r .line })
   pub size : length (r .words) ≡ length words
-  pub right : held ≤ length words → allOk wordOk (take held words) ≡ true → allOk wordOk (take held (r .words)) ≡ true
+  pub right : allOk wordOk (take held words) ≡ true → allOk wordOk (take held (r .words)) ≡ true
   pub onward : at ≤ r .at
   pub within : at ≤ length file → r .at ≤ length file
 

@@ -22,30 +22,12 @@ code c =
     let e = c .before .before in
     c .motor-refusal .ensures ∙ rw (c .before .in-use .ensures) (add-refusal (e .args .b) (motors-is e) (words-is e) (e .args .number) (e .args .s))
 
-room : (c : tie.Then1) → c .before .before .in-use .result < mostMotors
+room : (c : tie.Then1) → c .before .before .in-use .result < 32
+unfolding mostMotors
 room c = motor-room _ _ _ _ (sym (c .before .motor-refusal .ensures) ∙ c .if1 .taken)
 
-mul-fresh : tie.Need-mul-fresh
-unfolding mostMotors
-mul-fresh c = omega (arith, room (c .before))
-
-element-set-from-fresh : tie.Need-element-set-from-fresh
-unfolding mostMotors
-element-set-from-fresh c = omega (arith, room (c .before))
-
-mul-n : tie.Need-mul-n
-unfolding mostMotors
-mul-n c = omega (arith, room (c .before))
-
-element-write-n : tie.Need-element-write-n
-unfolding mostMotors
-element-write-n c = omega (arith, room (c .before))
-
-add-n : tie.Need-add-n
-unfolding mostMotors
-add-n c = omega (arith, room (c .before))
-
 returns : tie.Need-returns
+unfolding mostMotors
 returns c =
     let e = c .before .before .before .before in (
       code (c .before .before),
@@ -57,4 +39,4 @@ returns-2 : tie.Need-returns-2
 returns-2 c = (code (c .before), sym (refused _ _ (λ q. c .if1 .left (code (c .before) ∙ q))))
 
 pub add-spec : {M : Type 1} → statement M
-add-spec = tie.close (tie.spec (λ c κs. search needs) (λ c κs. search needs) (λ c κs. search needs) mul-fresh element-set-from-fresh mul-n element-write-n add-n returns returns-2)
+add-spec = tie.close (tie.spec (λ c κs. search needs) (λ c κs. search needs) (λ c κs. search needs) (λ c. omega (arith, room (c .before))) (λ c. omega (arith, room (c .before))) (λ c. omega (arith, room (c .before))) (λ c. omega (arith, room (c .before))) (λ c. omega (arith, room (c .before))) returns returns-2)

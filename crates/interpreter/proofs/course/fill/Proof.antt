@@ -2,8 +2,6 @@ use borrow.Author.Needs.{needs}
 use native.Mathlib.Omega.{arith}
 use Prim.Native.Nat.{suc, _-_, _≤_}
 use lib.ListN.{length}
-use borrow.Author.Tests.{leb-true}
-use Rattle.words.proofs.Laws.{and-true}
 use Rattle.report.proofs.PutLaws.{put-length, then}
 use Rattle.interpreter.proofs.AdvanceLaws.{Filling, filling-none, none-filled, taken, room-left, filling-more, filled-up, filled}
 use Rattle.interpreter.proofs.course.fill.Statement.{statement}
@@ -42,12 +40,12 @@ loop-less : tie.Need-loop-less Inv-loop μ-loop
 loop-less c =
     let l = c .before .before .before .before .before .before .before .before .before .before .before .before .before .before .loop in
     let file = c .before .before .before .before .before .before .before .before .before .before .before .before .before .before .before .before .before .before .args .file .now in
-    let i : l .here .at ≤ length file = leb-true _ _ (and-true _ _ (c .before .before .before .before .before .before .before .before .before .before .before .before .if2 .taken) .0) in
+    let i : l .here .at ≤ length file = taken (l .inv) (c .before .before .before .before .before .before .before .before .before .before .before .before .if2 .taken) .0 in
     let r = c .before .before .before .before .before .before .before .before .before .before .take-scans .ensures .0 in
     omega (arith, r .onward, c .before .before .before .take-line .ensures .further)
 
 loop-again : tie.Need-loop-again Inv-loop μ-loop
-loop-again c = filling-more (c .before .before .before .before .before .before .before .before .before .before .before .before .before .before .loop .inv) (c .before .before .before .before .before .before .before .before .before .before .take-scans .ensures .0) (c .before .before .before .before .before .before .if3 .left) (c .before .before .before .take-line .ensures) (c .before .before .before .before .before .before .before .before .before .before .before .before .if2 .taken) (c .before .before .before .before .before .before .before .before .before .before .before .before .before .before .before .if1 .left)
+loop-again c = filling-more (c .before .before .before .before .before .before .before .before .before .before .before .before .before .before .loop .inv) (c .before .before .before .before .before .before .before .before .before .before .take-scans .ensures .0) (c .before .before .before .before .before .before .if3 .left) (c .before .before .before .take-line .ensures) (c .before .before .before .before .before .before .before .before .before .before .before .before .before .before .before .if1 .left)
 
 same-length-2 : tie.Need-same-length-2 Inv-loop μ-loop
 same-length-2 c = put-length (c .before .before .loop .inv .put)

@@ -10,10 +10,6 @@ use Rattle.interpreter.proofs.ActLaws.{input-there}
 use Rattle.interpreter.proofs.InputLaws.{run-none, run-more}
 use Rattle.interpreter.proofs.inputs.take_inputs.Statement.{statement}
 use Rattle.interpreter.proofs.inputs.take_inputs.Tie as tie
-use Rattle.interpreter.proofs.inputs.take_inputs.Reads as reads
-use Rattle.interpreter.proofs.inputs.take_inputs.Lts as lts
-use Rattle.interpreter.proofs.acts.next_number.Reads as next-number-reads
-use Rattle.interpreter.proofs.inputs.next_input.Reads as next-input-reads
 
 abbrev Inv-loop : tie.InvT-loop
 Inv-loop file held at line words₀ at₀ line₀ words at' line' = Run file held words₀ at₀ line₀ (record { words = words; at = at'; line = line' })
@@ -29,20 +25,8 @@ found c = rw (c .before .number .given .1) at (c .before .before .before .next-i
 loop-holds : tie.Need-loop-holds Inv-loop μ-loop
 loop-holds c = run-none
 
-next-input-requires : tie.Need-next-input-requires Inv-loop μ-loop
-next-input-requires c κs = search needs
-
-enum-known-number : tie.Need-enum-known-number Inv-loop μ-loop
-enum-known-number c = search needs
-
-enum-told : tie.Need-enum-told Inv-loop μ-loop
-enum-told c = search needs
-
 returns : tie.Need-returns Inv-loop μ-loop
 returns c = c .before .before .before .loop .inv
-
-cast-i : tie.Need-cast-i Inv-loop μ-loop
-cast-i c = search needs
 
 sub-i : tie.Need-sub-i Inv-loop μ-loop
 sub-i c = let h = found c in omega (arith, input-there _ _ _ (h .1))
@@ -54,9 +38,6 @@ mul-words c = let h = found c in omega (arith, input-there _ _ _ (h .1), c .befo
 array-write-words : tie.Need-array-write-words Inv-loop μ-loop
 unfolding mostMotors
 array-write-words c = let h = found c in omega (arith, input-there _ _ _ (h .1), c .before .before .before .before .before .before .pre)
-
-next-number-requires : tie.Need-next-number-requires Inv-loop μ-loop
-next-number-requires c κs = search needs
 
 loop-less : tie.Need-loop-less Inv-loop μ-loop
 loop-less c = let s = taken _ _ _ _ (found (c .before) .0) in omega (arith, s .further, s .within)
@@ -71,14 +52,14 @@ take-inputs-spec =
     Inv-loop
     μ-loop
     loop-holds
-    next-input-requires
-    enum-known-number
-    enum-told
+    (λ c κs. search needs)
+    (λ c. search needs)
+    (λ c. search needs)
     returns
-    cast-i
+    (λ c. search needs)
     sub-i
     mul-words
     array-write-words
-    next-number-requires
+    (λ c κs. search needs)
     loop-less
     loop-again)

@@ -57,9 +57,6 @@ ready c =
     (each-due (l .inv .3) (e .before .before .before .before .before .before .before .take-inputs .result) (l .inv .0) (l .inv .1) (l .inv .2) (rw n at (e .before .before .before .before .before .before .before .take-inputs .ensures)) _ _ (found e .0) (found e .1) (e .loop2 .i) blank
     (omega (arith, c .loop2-test .taken, n)))
 
-in-use-requires : tie.Need-in-use-requires Inv-loop2 μ-loop2 Inv-loop μ-loop
-in-use-requires c κs = search needs
-
 loop-holds : tie.Need-loop-holds Inv-loop2 μ-loop2 Inv-loop μ-loop
 loop-holds c =
     let e = c .before .before .before .before .before .before in
@@ -69,17 +66,8 @@ take-inputs-requires : tie.Need-take-inputs-requires Inv-loop2 μ-loop2 Inv-loop
 unfolding mostMotors
 take-inputs-requires c κs = omega (arith, c .before .before .before .before .in-use .ensures)
 
-next-scan-requires : tie.Need-next-scan-requires Inv-loop2 μ-loop2 Inv-loop μ-loop
-next-scan-requires c κs = search needs
-
-enum-known-period : tie.Need-enum-known-period Inv-loop2 μ-loop2 Inv-loop μ-loop
-enum-known-period c = search needs
-
 enum-told : tie.Need-enum-told Inv-loop2 μ-loop2 Inv-loop μ-loop
 enum-told c = search needs
-
-stand-requires : tie.Need-stand-requires Inv-loop2 μ-loop2 Inv-loop μ-loop
-stand-requires c κs = search needs
 
 same-length : tie.Need-same-length Inv-loop2 μ-loop2 Inv-loop μ-loop
 same-length c = put-length (c .before .before .before .before .before .before .before .loop .inv .3 .put)
@@ -94,80 +82,8 @@ returns c =
       λ h period next e. untimely (record { motors = l .motors; words = i .words; count = c .before .before .before .before .before .before .before .before .before .before .before .before .before .before .args .s .bench .count; scans = l .scans }) (l .inv .0) (run .size ∙ l .inv .1) period (rw (c .before .enum-told .given .1) at (c .before .before .before .next-scan .ensures) period next e),
     )
 
-next-number-requires : tie.Need-next-number-requires Inv-loop2 μ-loop2 Inv-loop μ-loop
-next-number-requires c κs = search needs
-
 loop2-holds : tie.Need-loop2-holds Inv-loop2 μ-loop2 Inv-loop μ-loop
 loop2-holds c = (omega arith, scanning-none)
-
-mul-word : tie.Need-mul-word Inv-loop2 μ-loop2 Inv-loop μ-loop
-mul-word c = omega (arith, below c)
-
-array-read-word : tie.Need-array-read-word Inv-loop2 μ-loop2 Inv-loop μ-loop
-array-read-word c = omega (arith, below c)
-
-mul-m : tie.Need-mul-m Inv-loop2 μ-loop2 Inv-loop μ-loop
-mul-m c = omega (arith, below c)
-
-array-copy-out-m : tie.Need-array-copy-out-m Inv-loop2 μ-loop2 Inv-loop μ-loop
-array-copy-out-m c = omega (arith, below c)
-
-is-resting-requires : tie.Need-is-resting-requires Inv-loop2 μ-loop2 Inv-loop μ-loop
-is-resting-requires c κs = search needs
-
-mul-rested : tie.Need-mul-rested Inv-loop2 μ-loop2 Inv-loop μ-loop
-mul-rested c = omega (arith, below (c .before .before .before .before .before .before))
-
-array-copy-out-rested : tie.Need-array-copy-out-rested Inv-loop2 μ-loop2 Inv-loop μ-loop
-array-copy-out-rested c = omega (arith, below (c .before .before .before .before .before .before))
-
-rest-requires : tie.Need-rest-requires Inv-loop2 μ-loop2 Inv-loop μ-loop
-rest-requires c κs = search needs
-
-mul-motors : tie.Need-mul-motors Inv-loop2 μ-loop2 Inv-loop μ-loop
-mul-motors c = omega (arith, below (c .before .before .before .before .before .before .before .before))
-
-array-set-from-motors : tie.Need-array-set-from-motors Inv-loop2 μ-loop2 Inv-loop μ-loop
-array-set-from-motors c = omega (arith, below (c .before .before .before .before .before .before .before .before))
-
-mul-scan : tie.Need-mul-scan Inv-loop2 μ-loop2 Inv-loop μ-loop
-mul-scan c = omega (arith, below (c .before .before .before .before .before .before))
-
-array-copy-out-scan : tie.Need-array-copy-out-scan Inv-loop2 μ-loop2 Inv-loop μ-loop
-array-copy-out-scan c = omega (arith, below (c .before .before .before .before .before .before))
-
-scan-requires : tie.Need-scan-requires Inv-loop2 μ-loop2 Inv-loop μ-loop
-scan-requires c κs = search needs
-
-mul-motors-2 : tie.Need-mul-motors-2 Inv-loop2 μ-loop2 Inv-loop μ-loop
-mul-motors-2 c = omega (arith, below (c .before .before .before .before .before .before .before .before .before))
-
-array-set-from-motors-2 : tie.Need-array-set-from-motors-2 Inv-loop2 μ-loop2 Inv-loop μ-loop
-array-set-from-motors-2 c = omega (arith, below (c .before .before .before .before .before .before .before .before .before))
-
-mul-after : tie.Need-mul-after Inv-loop2 μ-loop2 Inv-loop μ-loop
-mul-after c = omega (arith, below (c .before .before .before .before .before .before))
-
-array-copy-out-after : tie.Need-array-copy-out-after Inv-loop2 μ-loop2 Inv-loop μ-loop
-array-copy-out-after c = omega (arith, below (c .before .before .before .before .before .before))
-
-cast-row : tie.Need-cast-row Inv-loop2 μ-loop2 Inv-loop μ-loop
-cast-row c = omega (arith, below (c .before .before .before .before .before .before .before .before))
-
-add-row : tie.Need-add-row Inv-loop2 μ-loop2 Inv-loop μ-loop
-add-row c = omega (arith, below (c .before .before .before .before .before .before .before .before))
-
-row-requires : tie.Need-row-requires Inv-loop2 μ-loop2 Inv-loop μ-loop
-row-requires c κs = search needs
-
-put-row-requires : tie.Need-put-row-requires Inv-loop2 μ-loop2 Inv-loop μ-loop
-put-row-requires c κs = search needs
-
-add-i : tie.Need-add-i Inv-loop2 μ-loop2 Inv-loop μ-loop
-add-i c = omega (arith, below (c .before .before .before .before .before .before .before .before .before .before .before .before))
-
-loop2-less : tie.Need-loop2-less Inv-loop2 μ-loop2 Inv-loop μ-loop
-loop2-less c = omega (arith, c .before .before .before .before .before .before .before .before .before .before .before .before .loop2-test .taken)
 
 loop2-again : tie.Need-loop2-again Inv-loop2 μ-loop2 Inv-loop μ-loop
 unfolding withStatus
@@ -182,9 +98,6 @@ loop2-again c =
     ⊎-elim (λ w. w .3 ∙ set-rested (e .loop2 .motors) (e .loop2 .i) m word period (ready t) (sym (j .before .is-resting .ensures) ∙ w .0 .taken) (w .2 .ensures))
     (λ w. w .4 ∙ set-scanned (e .loop2 .motors) (e .loop2 .i) m word period (ready t) (w .2 .ensures .1)) (j .if1 .came) in
     (omega (arith, t .loop2-test .taken), scanning-more (e .loop2 .inv .1) blank (omega (arith, below t, e .before .before .before .before .before .before .before .before .before .loop .inv .0)) (omega (arith, below t, e .before .before .before .before .before .before .before .before .before .loop .inv .1, e .before .before .before .before .before .before .before .take-inputs .ensures .size)) later (rw (c .before .before .before .row .ensures) at (c .before .before .put-row .ensures)))
-
-next-number-requires-2 : tie.Need-next-number-requires-2 Inv-loop2 μ-loop2 Inv-loop μ-loop
-next-number-requires-2 c κs = search needs
 
 loop-less : tie.Need-loop-less Inv-loop2 μ-loop2 Inv-loop μ-loop
 loop-less c =
@@ -201,9 +114,6 @@ loop-again c =
     (line-scanned (l .inv .3) (e .before .before .before .before .before .before .before .take-inputs .result) (l .inv .0) (l .inv .1) (l .inv .2) run _ _ (found e .0) (found e .1)
     (let h : e .loop2 .i ≡ e .before .before .before .before .before .before .before .before .before .before .before .before .in-use .result = omega (arith, e .loop2 .inv .0) in h ∙ n) (rw (e .before .next-number .ensures) at (e .loop2 .inv .1)) (e .before .before .before .before .before .before .before .before .loop-test .taken) (omega (arith, e .before .before .before .before .before .before .before .before .before .before .before .before .before .before .before .before .pre .0 .holds)))
 
-stand-requires-2 : tie.Need-stand-requires-2 Inv-loop2 μ-loop2 Inv-loop μ-loop
-stand-requires-2 c κs = search needs
-
 same-length-2 : tie.Need-same-length-2 Inv-loop2 μ-loop2 Inv-loop μ-loop
 same-length-2 c = put-length (c .before .before .loop .inv .3 .put)
 
@@ -211,4 +121,51 @@ returns-2 : tie.Need-returns-2 Inv-loop2 μ-loop2 Inv-loop μ-loop
 returns-2 c = rw (c .stand2 .ensures) (c .before .before .loop .inv .3, λ h. absurd (omega (arith, c .before .loop-test .left)))
 
 pub scan-lines-spec : {M : Type 1} → statement M
-scan-lines-spec = tie.close (tie.spec Inv-loop2 μ-loop2 Inv-loop μ-loop in-use-requires loop-holds take-inputs-requires next-scan-requires enum-known-period enum-told stand-requires same-length returns next-number-requires loop2-holds mul-word array-read-word mul-m array-copy-out-m is-resting-requires mul-rested array-copy-out-rested rest-requires mul-motors array-set-from-motors mul-scan array-copy-out-scan scan-requires mul-motors-2 array-set-from-motors-2 mul-after array-copy-out-after cast-row add-row row-requires put-row-requires add-i loop2-less loop2-again next-number-requires-2 loop-less loop-again stand-requires-2 same-length-2 returns-2)
+scan-lines-spec =
+    tie.close
+    (tie.spec
+    Inv-loop2
+    μ-loop2
+    Inv-loop
+    μ-loop
+    (λ c κs. search needs)
+    loop-holds
+    take-inputs-requires
+    (λ c κs. search needs)
+    (λ c. search needs)
+    enum-told
+    (λ c κs. search needs)
+    same-length
+    returns
+    (λ c κs. search needs)
+    loop2-holds
+    (λ c. omega (arith, below c))
+    (λ c. omega (arith, below c))
+    (λ c. omega (arith, below c))
+    (λ c. omega (arith, below c))
+    (λ c κs. search needs)
+    (λ c. omega (arith, below (c .before .before .before .before .before .before)))
+    (λ c. omega (arith, below (c .before .before .before .before .before .before)))
+    (λ c κs. search needs)
+    (λ c. omega (arith, below (c .before .before .before .before .before .before .before .before)))
+    (λ c. omega (arith, below (c .before .before .before .before .before .before .before .before)))
+    (λ c. omega (arith, below (c .before .before .before .before .before .before)))
+    (λ c. omega (arith, below (c .before .before .before .before .before .before)))
+    (λ c κs. search needs)
+    (λ c. omega (arith, below (c .before .before .before .before .before .before .before .before .before)))
+    (λ c. omega (arith, below (c .before .before .before .before .before .before .before .before .before)))
+    (λ c. omega (arith, below (c .before .before .before .before .before .before)))
+    (λ c. omega (arith, below (c .before .before .before .before .before .before)))
+    (λ c. omega (arith, below (c .before .before .before .before .before .before .before .before)))
+    (λ c. omega (arith, below (c .before .before .before .before .before .before .before .before)))
+    (λ c κs. search needs)
+    (λ c κs. search needs)
+    (λ c. omega (arith, below (c .before .before .before .before .before .before .before .before .before .before .before .before)))
+    (λ c. omega (arith, c .before .before .before .before .before .before .before .before .before .before .before .before .loop2-test .taken))
+    loop2-again
+    (λ c κs. search needs)
+    loop-less
+    loop-again
+    (λ c κs. search needs)
+    same-length-2
+    returns-2)
