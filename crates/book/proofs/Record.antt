@@ -17,7 +17,7 @@ use Rattle.rules.proofs.Tables.{element, table-refused}
 use Rattle.book.specs.Log.{Log, none, _▸_}
 use Rattle.book.specs.History.{Entry, table, single, otherTable, otherSingle, resultOf, after, inputOf, takesIn, counts, recordAfter, history, recordOf}
 
--- the motor's place in the table
+-- the motor's place is in the table
 in-table : (b a : List Motor) (m : Motor) → length b < length (b ++ (m ∷ a))
 in-table b a m = rw length-append (omega arith)
 

@@ -322,7 +322,7 @@ in-range m f =
 
 -- ---- what a caller of the steps needs
 
--- a scan is accepted exactly where record, period and word are in limits
+-- where a scan is accepted, record, period and word are in limits
 pub record OneAccepted (m : Motor) (word period : ℕ) : Type 0 where
   pub range : inRange m ≡ true
   pub time : periodOk period ≡ true

@@ -190,7 +190,7 @@ module _ (file l : List ℕ) (at end : ℕ) (parts : drop at file ≡ l ++ drop 
   unfolding nextAt takenAt
   line-next free = rw (line-until free, line-between)
 
--- ---- the requests of the two kinds of lines
+-- ---- the requests of the three kinds of lines
 
 pub scan-request : (d : List ℕ) (value : ℕ) → Free comma ((letter-S ∷ []) ∷ d ∷ []) → numberOf d ≡ Value value
     → requestOf (joined comma ((letter-S ∷ []) ∷ d ∷ [])) ≡ Scan value

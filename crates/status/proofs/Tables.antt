@@ -1,5 +1,5 @@
--- The constant arrays of the commands: each agrees with its rule at every number, by one test that antt computes.
--- Assumes nothing.
+-- The constant arrays of the commands: each agrees with its rule at every number, by one test that antt computes. So does the list of the
+-- commands, of which the choice takes the first. Assumes nothing.
 use mathlib.Core.Path.{_≡_, refl, ap}
 use mathlib.Core.Bool.{Bool, true, false, _&&_}
 use mathlib.Core.List.{[], _∷_}
