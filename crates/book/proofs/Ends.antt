@@ -8,7 +8,7 @@ use native.Mathlib.Decide.{ℕ-discrete}
 use lib.Dec.{eqb, ltb, lit<}
 use borrow.Author.Tests.{eqb-true, eqb-false, ne-eqb, ltb-true}
 use Rattle.words.specs.Word.{if_then_else_, isSet}
-use Rattle.words.proofs.Laws.{if-lt, set-has, and-true}
+use Rattle.words.proofs.Laws.{either, if-lt, set-has, and-true}
 use Rattle.rules.specs.declared.Settings.{Settings}
 use Rattle.rules.specs.declared.Status.{Status}
 use Rattle.rules.specs.declared.Reading.{Reading}
@@ -129,6 +129,15 @@ module _ (s : Settings) (v : Status) (word : ℕ) (up : Bool) (live : idle v ≡
   unfolding x overdue status2 status1 withFlags withPositions withCommand idle
   late-live c u = rw (live, c, u)
 
+module _ (s : Settings) (v : Status) (word : ℕ) (up : Bool) (none : idle v ≡ true) where
+  ends-idle : endsIn s v word up ≡ false
+  unfolding endsIn ended status2 status1 withFlags withPositions withCommand confirmed overdue idle
+  ends-idle = rw none
+
+  end-idle : endIn s v word up ≡ no-end
+  unfolding endIn end4 status2 status1 withFlags withPositions withCommand confirmed overdue idle if_then_else_
+  end-idle = rw none
+
 issue-lt : (s : Settings) (h : Log Input) (y : Input) → bookOf s h .issue < count (h ▸ y)
 unfolding count
 issue-lt s h y = omega (arith, book-held s h .number)
@@ -170,13 +179,22 @@ module _ (s : Settings) (h : Log Input) (y : Input) where
       let t = three (confirms (reading s (y .word)) (b .status .command)) up _ f in
       flag-after s (b .status) (y .word) up (eqb-false _ 0 live) (command-lt s h) (late-live s (b .status) (y .word) up live (t .0) (t .1))
 
-  idle-at : idle (bookOf s h .status) ≡ true → bookOf s (h ▸ y) .status .command ≢ 0 → bookOf s (h ▸ y) .issue ≡ count (h ▸ y)
+  -- where none was under way, one that is was issued by y, and none has ended
+  pub idle-at : idle (bookOf s h .status) ≡ true → bookOf s (h ▸ y) .status .command ≢ 0 → bookOf s (h ▸ y) .issue ≡ count (h ▸ y)
   unfolding bookOf bookScan book1to6 idle
   idle-at id ne =
       let b = bookOf s h in
       let up = isUp s (b .issue) (h ▸ y) in
       let q = issued s (status1to6 s (b .status) (y .word) up) (y .word) in
       idle-go (eqb q 0) _ q (b .issue) (count (h ▸ y)) (b .status .command) (eqb-true _ 0 id) (rw (command-after s (b .status) (y .word) up) at ne)
+
+  pub idle-end : idle (bookOf s h .status) ≡ true → bookOf s (h ▸ y) .status .end ≡ no-end
+  unfolding bookOf bookScan book1to6 idle if_then_else_
+  idle-end id =
+      let b = bookOf s h in
+      let up = isUp s (b .issue) (h ▸ y) in
+      rw (end-after s (b .status) (y .word) up, ends-idle s (b .status) (y .word) up id, end-idle s (b .status) (y .word) up id, id)
+      (either (λ (n : ℕ). n ≡ no-end) (eqb (issued s (status1to6 s (b .status) (y .word) up) (y .word)) 0) refl refl)
 
   module _ (c i : ℕ) (u : UnderWay s c i h) where
     live-of : idle (bookOf s h .status) ≡ false
@@ -204,7 +222,7 @@ module _ (s : Settings) (h : Log Input) (y : Input) where
         }
 
 -- a command that was issued before the scan y and is under way after it was so before it, and nothing befell it
-back : (s : Settings) (h : Log Input) (y : Input) (c i : ℕ) → i ≤ count h → UnderWay s c i (h ▸ y)
+pub back : (s : Settings) (h : Log Input) (y : Input) (c i : ℕ) → i ≤ count h → UnderWay s c i (h ▸ y)
     → UnderWay s c i h × (fate s c i h y ≡ no-end)
 unfolding count
 back s h y c i l u = go (idle (bookOf s h .status)) refl

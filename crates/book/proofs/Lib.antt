@@ -1,4 +1,5 @@
 pub mod Record
+pub mod Periods
 pub mod Book
 pub mod Ends
 pub mod Chain
