@@ -1,0 +1,6 @@
+pub mod Turns
+pub mod Laws
+pub mod Theorem
+pub mod Running
+pub mod Lists
+pub mod Choices

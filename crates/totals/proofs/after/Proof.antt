@@ -1,0 +1,40 @@
+use mathlib.Core.Path.{refl}
+use borrow.Author.Tests.{eq-eqb, ne-eqb}
+use Rattle.words.specs.Word.{if_then_else_}
+use Rattle.totals.specs.Running.{countedIf, totalsAfter}
+use Rattle.totals.proofs.Choices.{worst-choice}
+use borrow.Author.Needs.{needs}
+use Rattle.totals.proofs.after.Statement.{statement}
+use Rattle.totals.proofs.after.Tie as tie
+
+returns : tie.Need-returns
+unfolding totalsAfter countedIf if_then_else_
+returns c =
+    rw (
+      eq-eqb _ 1 (c .before .before .before .before .before .if1 .taken),
+      c .before .before .before .before .before .before .before .before .before .before .before .before .count-if .ensures,
+      c .before .before .before .before .before .before .before .before .before .before .before .before .before .has-issued .ensures,
+      c .before .before .before .before .before .before .before .before .before .before .count-if2 .ensures,
+      c .before .before .before .before .before .before .before .before .count-if3 .ensures,
+      c .before .before .before .before .before .before .before .on-after .ensures,
+      c .before .before .before .plus2 .ensures,
+      c .before .before .best-after .ensures,
+      c .choose .ensures,
+      c .before .before .before .before .plus .ensures,
+      worst-choice,
+    ) refl
+
+returns-2 : tie.Need-returns-2
+unfolding totalsAfter countedIf if_then_else_
+returns-2 c =
+    rw (
+      ne-eqb _ 1 (c .if1 .left),
+      c .before .before .before .before .before .before .before .count-if .ensures,
+      c .before .before .before .before .before .before .before .before .has-issued .ensures,
+      c .before .before .before .before .before .count-if2 .ensures,
+      c .before .before .before .count-if3 .ensures,
+      c .before .before .on-after .ensures,
+    ) refl
+
+pub after-spec : {M : Type 1} → statement M
+after-spec = tie.close (tie.spec (λ c κs. search needs) (λ c κs. search needs) (λ c κs. search needs) (λ c κs. search needs) (λ c κs. search needs) (λ c κs. search needs) (λ c κs. search needs) (λ c κs. search needs) (λ c κs. search needs) returns returns-2)
