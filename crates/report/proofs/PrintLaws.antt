@@ -10,8 +10,9 @@ use lib.Seq.{drop-cons}
 use borrow.Author.Tests.{lt-ltb, le-ltb}
 use Rattle.words.specs.Word.{if_then_else_}
 use Rattle.sheet.specs.Split.{LF}
-use Rattle.report.specs.Print.{digitsOf, decimal, afterComma, afterCommas, lineOf, letter-R, letter-E, rowOf, refusalOf}
+use Rattle.report.specs.Print.{digitsOf, decimal, afterComma, afterCommas, lineOf, letter-R, letter-E, letter-T, rowOf, totalsRowOf, refusalOf}
 use Rattle.report.specs.declared.Row.{Row}
+use Rattle.report.specs.declared.TotalsRow.{TotalsRow}
 
 -- ---- a number below ten, and a larger one
 
@@ -81,6 +82,10 @@ line-length letter ns = omega (arith, fields-length ns)
 pub row-length : (r : Row) → length (rowOf r) ≤ 90
 unfolding rowOf
 row-length r = line-length letter-R _
+
+pub totals-length : (r : TotalsRow) → length (totalsRowOf r) ≤ 101
+unfolding totalsRowOf
+totals-length r = line-length letter-T _
 
 pub refusal-length : (line refusal : ℕ) → length (refusalOf line refusal) ≤ 24
 unfolding refusalOf

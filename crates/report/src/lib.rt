@@ -2,7 +2,7 @@
 // putting does to a buffer of any length, at any place.
 ghost use mathlib.Core.List.{[], _∷_};
 ghost use Rattle.report.specs.Put.{Put};
-ghost use Rattle.report.specs.Print.{decimal, afterComma, lineOf, rowOf, refusalOf};
+ghost use Rattle.report.specs.Print.{decimal, afterComma, lineOf, rowOf, totalsRowOf, refusalOf};
 
 mod rows;
 
@@ -24,6 +24,19 @@ pub struct Row {
     pub end: u32,
     pub output: u32,
     pub flags: u32,
+}
+
+// A motor's line at the end of a file.
+pub struct TotalsRow {
+    pub number: u32,
+    pub issued: u32,
+    pub confirmed: u32,
+    pub displaced: u32,
+    pub overdue: u32,
+    pub underway: u32,
+    pub on: u32,
+    pub best: u32,
+    pub worst: u32,
 }
 
 // One byte.
@@ -91,6 +104,24 @@ pub fn put_row(out: &mut [u8], at: usize, row: Row) -> usize
         row.flags,
     ];
     put_line(out, at, b'R', &numbers)
+}
+
+// T,number,issued,confirmed,displaced,overdue,under way,on,best,worst
+pub fn put_totals(out: &mut [u8], at: usize, row: TotalsRow) -> usize
+    ensures { λ r. ⌜ Put (now (out .entry)) at (totalsRowOf row) (now (out .exit)) r ⌝ }
+{
+    let numbers = [
+        row.number,
+        row.issued,
+        row.confirmed,
+        row.displaced,
+        row.overdue,
+        row.underway,
+        row.on,
+        row.best,
+        row.worst,
+    ];
+    put_line(out, at, b'T', &numbers)
 }
 
 // E,line,refusal
