@@ -12,6 +12,8 @@ use Rattle.rules.specs.Refusals.{mostMotors, partRefusal, partAfter}
 use Rattle.rules.specs.declared.Motor.{Motor}
 use Rattle.words.proofs.Laws.{both-le}
 use Rattle.rules.proofs.Tables.{length-part}
+use Rattle.totals.specs.declared.Totals.{Totals}
+use Rattle.totals.specs.Running.{allTotals}
 use Rattle.sheet.specs.declared.Request.{Request}
 use Rattle.sheet.specs.declared.Request.the-variants.{Motor as M, Input as I, Scan as S, Refused}
 use Rattle.sheet.specs.declared.Next.the-variants.{Taken, Done}
@@ -22,17 +24,17 @@ use Rattle.report.specs.Print.{refusalOf}
 use Rattle.report.proofs.PutLaws.{put-none, put-length, then as and-then}
 use Rattle.report.proofs.PrintLaws.{refusal-length}
 use Rattle.interpreter.specs.State.{emptyState, nextNumber, withWords, refusalFor, stateAfter, viewOf}
-use Rattle.interpreter.specs.Print.{rowsOf, answerOf, atEnd, tooLong}
-use Rattle.interpreter.specs.Advance.{placeOf, Through, mostPut, NoScan, opening, Begin, Advance, Fill}
+use Rattle.interpreter.specs.Print.{rowsOf, answerOf, tooLong}
+use Rattle.interpreter.specs.Advance.{placeOf, atEnd, Through, mostPut, NoScan, opening, Begin, Advance, Fill}
 use Rattle.interpreter.specs.Advance.Through.{none, accepted, refused, ended}
-use Rattle.interpreter.specs.Inputs.{Run, Scans, Room}
+use Rattle.interpreter.specs.Runs.{Run, Scans, Room}
 use Rattle.interpreter.specs.declared.Bench.{Bench}
 use Rattle.interpreter.specs.declared.Acted.{Acted}
 use Rattle.interpreter.specs.declared.inputs.Inputs.{Inputs}
 use Rattle.interpreter.specs.declared.Sitting.{Sitting}
 use Rattle.interpreter.specs.declared.Advanced.{Advanced}
 use Rattle.interpreter.proofs.ActLaws.{accepted as is-changed, used, scan-refusal, scanned-state}
-use Rattle.interpreter.proofs.PrintLaws.{answer-length, through-then}
+use Rattle.interpreter.proofs.PrintLaws.{answer-length, end-length, through-then}
 
 -- a bench at a place of a file
 abbrev pub standing : Bench → ℕ → ℕ → ℕ → Advanced
@@ -49,15 +51,16 @@ module _ {file : List ℕ} {b : Bench} {to : ℕ} {out : List ℕ} where
   begun e h = let l = le-ltb 65536 (length file) h in record { put = rw l put-none; at = rw l refl; state = e; line = refl }
 
 module _ {file : List ℕ} {s : Sitting} {to : ℕ} {out : List ℕ} where
-  -- nothing was left to take
-  pub at-end : s .at ≤ length file → nextAt file (s .at) ≡ Done → Advance file s out to out (standing (s .bench) (length file + 1) (s .line) to)
-  unfolding atEnd
-  at-end l f =
+  -- no line is left
+  pub at-end : {after : List ℕ} {n : ℕ} → s .at ≤ length file → nextAt file (s .at) ≡ Done → length (s .bench .motors) ≡ 32
+      → Put out to (atEnd (viewOf (s .bench))) after n → Advance file s out to after (standing (s .bench) (length file + 1) (s .line) n)
+  unfolding mostMotors
+  at-end l f is p =
       record {
-        piece = [];
+        piece = atEnd (viewOf (s .bench));
         through = ended none l f;
-        put = put-none;
-        short = omega arith;
+        put = p;
+        short = end-length (viewOf (s .bench)) (omega (arith, used (s .bench .count) (s .bench .motors) is));
         further = omega arith;
       }
 
@@ -106,7 +109,7 @@ module _ {file : List ℕ} {s : Sitting} {to : ℕ} {out : List ℕ} where
 abbrev pub afterRun : Sitting → Inputs → Sitting
 afterRun s n =
     record {
-      bench = record { motors = s .bench .motors; words = n .words; count = s .bench .count; scans = s .bench .scans };
+      bench = record { motors = s .bench .motors; totals = s .bench .totals; words = n .words; count = s .bench .count; scans = s .bench .scans };
       at = n .at;
       line = n .line;
     }
@@ -156,21 +159,23 @@ module _ {file : List ℕ} {s : Sitting} {out : List ℕ} {to last : ℕ} where
           moved = λ l. omega (arith, r .moved l, run .onward);
         }
 
-    -- a run of I lines and an S line more: `records` are the motors after its scan
-    pub scans-more : (i : Inputs) {period next m : ℕ} {records : List Motor} {later : List ℕ} → length (here .bench .motors) ≡ 32
-        → length (here .bench .words) ≡ 32 → Run file (min (here .bench .count) mostMotors) (here .bench .words) (here .at) (here .line) i
-        → nextAt file (i .at) ≡ Taken (S period) next → partRefusal (here .bench .motors) (min (here .bench .count) mostMotors) (i .words) period ≡ 0
-        → records ≡ partAfter (here .bench .motors) (min (here .bench .count) mostMotors) (i .words) period → n ≤ last → last + mostPut ≤ length out
+    -- a run of I lines and an S line more: `records` are the motors after its scan, and `sums` their totals
+    pub scans-more : (i : Inputs) {period next m : ℕ} {records : List Motor} {sums : List Totals} {later : List ℕ} → length (here .bench .motors) ≡ 32
+        → length (here .bench .totals) ≡ 32 → length (here .bench .words) ≡ 32
+        → Run file (min (here .bench .count) mostMotors) (here .bench .words) (here .at) (here .line) i → nextAt file (i .at) ≡ Taken (S period) next
+        → partRefusal (here .bench .motors) (min (here .bench .count) mostMotors) (i .words) period ≡ 0
+        → records ≡ partAfter (here .bench .motors) (min (here .bench .count) mostMotors) (i .words) period
+        → sums ≡ allTotals (here .bench .totals) (here .bench .motors) (take (min (here .bench .count) mostMotors) (i .words)) period → n ≤ last → last + mostPut ≤ length out
         → Put after n (rowsOf (nextNumber (here .bench .scans)) 1 (take (here .bench .count) records)) later m
         → Scans file s out to last later
-        (standing (record { motors = records; words = i .words; count = here .bench .count; scans = nextNumber (here .bench .scans) }) next (nextNumber (i .line)) m)
+        (standing (record { motors = records; totals = sums; words = i .words; count = here .bench .count; scans = nextNumber (here .bench .scans) }) next (nextNumber (i .line)) m)
     unfolding answerOf
-    scans-more i {period} {next} {m} {records} is js run found ok f h room p =
+    scans-more i {period} {next} {m} {records} {sums} is ts js run found ok f g h room p =
         let b = afterRun here i .bench in
         let js₁ = run .size ∙ js in
         scans-line-of (scans-inputs i is run) h room (taken-step file (i .at) (S period) next found .within)
-        (goes-on {s = afterRun here i} found (record { refusal = 0; bench = record { motors = records; words = i .words; count = here .bench .count; scans = nextNumber (here .bench .scans) } })
-        (sym ok ∙ scan-refusal b is js₁ period) (scanned-state b is js₁ period ok f) (ap length f ∙ length-part (here .bench .motors) (min (here .bench .count) mostMotors) (i .words) period ∙ is) refl p)
+        (goes-on {s = afterRun here i} found (record { refusal = 0; bench = record { motors = records; totals = sums; words = i .words; count = here .bench .count; scans = nextNumber (here .bench .scans) } })
+        (sym ok ∙ scan-refusal b is ts js₁ period) (scanned-state b is ts js₁ period ok f g) (ap length f ∙ length-part (here .bench .motors) (min (here .bench .count) mostMotors) (i .words) period ∙ is) refl p)
 
 -- ---- a buffer filled line by line
 

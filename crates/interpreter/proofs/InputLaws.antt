@@ -15,7 +15,7 @@ use Rattle.interpreter.specs.State.{State, nextNumber, inputRefusal, wit
 use Rattle.interpreter.specs.Print.{answerOf}
 use Rattle.interpreter.specs.Advance.{Through}
 use Rattle.interpreter.specs.Advance.Through.{none, accepted}
-use Rattle.interpreter.specs.Inputs.{Run}
+use Rattle.interpreter.specs.Runs.{Run}
 use Rattle.interpreter.proofs.ActLaws.{input-there}
 use Rattle.interpreter.proofs.Kept.{all-set, word-right}
 

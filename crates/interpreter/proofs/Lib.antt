@@ -1,5 +1,6 @@
 pub mod ActLaws
 pub mod PrintLaws
+pub mod Histories
 pub mod AdvanceLaws
 pub mod InputLaws
 pub mod ScanLaws

@@ -18,7 +18,8 @@ use Rattle.interpreter.specs.Print.{tooLong, printOf}
 use Rattle.interpreter.specs.Advance.{placeOf, mostPut, opening, Begin, Fill}
 use Rattle.interpreter.specs.declared.Sitting.{Sitting}
 use Rattle.interpreter.specs.declared.Advanced.{Advanced}
-use Rattle.interpreter.proofs.PrintLaws.{restFrom, restAt, rest-past, through-rest, print-long, print-rest}
+use Rattle.interpreter.proofs.PrintLaws.{restFrom, restAt, rest-past, through-rest, print-long}
+use Rattle.interpreter.proofs.Histories.{print-rest}
 
 -- Calls from a sitting on, each from the sitting that the one before handed back, up to a place past the end of the file; and the piece
 -- that each of them puts. A call past the end is not made.

@@ -15,11 +15,12 @@ use Rattle.sheet.specs.declared.Request.{Request}
 use Rattle.sheet.specs.declared.Request.the-variants.{Motor as M, Input as I, Scan as S, Refused}
 use Rattle.sheet.specs.Grammar.{requestsOf, requestRefusal}
 use Rattle.sheet.proofs.RequestLaws.{Step, requests-end, taken, done}
-use Rattle.report.specs.Print.{rowOf, refusalOf}
-use Rattle.report.proofs.PrintLaws.{row-length}
+use Rattle.report.specs.Print.{rowOf, totalsRowOf, refusalOf}
+use Rattle.report.proofs.PrintLaws.{row-length, totals-length}
+use Rattle.totals.specs.declared.Totals.{Totals}
 use Rattle.interpreter.specs.State.{State, emptyState, nextNumber, refusalFor, changed}
-use Rattle.interpreter.specs.Print.{motorRow, rowsOf, answerOf, atEnd, printFrom, tooLong, printOf}
-use Rattle.interpreter.specs.Advance.{Place, over, Through, mostPut}
+use Rattle.interpreter.specs.Print.{motorRow, rowsOf, answerOf, totalsRow, printFrom, tooLong, printOf}
+use Rattle.interpreter.specs.Advance.{Place, over, underWay, runningPrint, atEnd, Through, mostPut}
 use Rattle.interpreter.specs.Advance.Through.{none, accepted, refused, ended}
 
 -- ---- the rows of the motors
@@ -50,6 +51,39 @@ answer-length t (M number ops1 ops2 w u) h = omega arith
 answer-length t (I number word) h = omega arith
 answer-length t (S period) h = omega (arith, rows-length (t .scans) 1 (t .motors))
 answer-length t Refused h = omega arith
+
+-- ---- the T lines of the motors
+
+totals-last : (n : ℕ) (ms : List Motor) (ts : List Totals) (m : Motor) (t : Totals) → length ms ≡ length ts
+    → runningPrint n (ms ++ (m ∷ [])) (ts ++ (t ∷ [])) ≡ runningPrint n ms ts ++ totalsRowOf (totalsRow (n + length ms) (underWay m) t)
+unfolding runningPrint
+totals-last n [] [] m t e = append-nil _ ∙ ap (λ (k : ℕ). totalsRowOf (totalsRow k (underWay m) t)) (sym (add-zero n))
+totals-last n [] (u ∷ ts) m t e = absurd (omega arith)
+totals-last n (x ∷ ms) [] m t e = absurd (omega arith)
+totals-last n (x ∷ ms) (u ∷ ts) m t e =
+    let k : n + 1 + length ms ≡ n + suc (length ms) = omega arith in
+    rw (totals-last (n + 1) ms ts m t (omega arith), append-assoc, k)
+
+-- one motor more
+pub totals-more : (i : ℕ) (ms : List Motor) (ts : List Totals) (d : Motor) (e : Totals) → i < length ms → i < length ts
+    → runningPrint 1 (take (i + 1) ms) (take (i + 1) ts) ≡ runningPrint 1 (take i ms) (take i ts) ++ totalsRowOf (totalsRow (i + 1) (underWay (getD ms i d)) (getD ts i e))
+totals-more i ms ts d e h k =
+    let a = length-take-le i ms (omega arith) in
+    let b = length-take-le i ts (omega arith) in
+    let f : 1 + length (take i ms) ≡ i + 1 = omega (arith, a) in
+    rw (add-one i, take-suc ms i d h, take-suc ts i e k) (totals-last 1 (take i ms) (take i ts) (getD ms i d) (getD ts i e) (a ∙ sym b) ∙ rw (f, add-one i))
+
+totals-print-length : (n : ℕ) (ms : List Motor) (ts : List Totals) → length (runningPrint n ms ts) ≤ 101 * length ms
+unfolding runningPrint
+totals-print-length n [] ts = omega arith
+totals-print-length n (m ∷ ms) [] = omega arith
+totals-print-length n (m ∷ ms) (t ∷ ts) =
+    let r = totalsRow n (underWay m) t in
+    omega (arith, length-append (totalsRowOf r) (runningPrint (n + 1) ms ts), totals-length r, totals-print-length (n + 1) ms ts)
+
+pub end-length : (t : State) → length (t .motors) ≤ 32 → length (atEnd t) ≤ mostPut
+unfolding atEnd
+end-length t h = omega (arith, totals-print-length 1 (t .motors) (t .totals))
 
 -- ---- the first of some requests
 
@@ -134,15 +168,8 @@ module _ {file : List ℕ} {from : Place} where
   through-then {front = front} c (refused {piece} {p} {r} d f h) = rw (← append-assoc front piece (refusalOf (p .line) (refusalFor (p .state) r))) (refused (through-then c d) f h)
   through-then {front = front} c (ended {piece} {p} d l f) = rw (← append-assoc front piece (atEnd (p .state))) (ended (through-then c d) l f)
 
--- ---- the whole print
+-- ---- the print of a file that is too long
 
 pub print-long : (file : List ℕ) → 65536 < length file → printOf file ≡ refusalOf 0 1
 unfolding printOf tooLong if_then_else_
 print-long file h = rw (lt-ltb 65536 (length file) h)
-
-pub print-short : (file : List ℕ) → length file ≤ 65536 → printOf file ≡ printFrom atEnd (requestsOf file) emptyState 1
-unfolding printOf tooLong if_then_else_
-print-short file h = rw (le-ltb 65536 (length file) h)
-
-pub print-rest : (file : List ℕ) → length file ≤ 65536 → printOf file ≡ restFrom file 0 emptyState 1
-print-rest file h = print-short file h ∙ sym (rest-from file 0 emptyState 1 (omega arith))

@@ -13,12 +13,18 @@ use Rattle.words.specs.Word.{if_then_else_}
 use Rattle.rules.specs.declared.Motor.{Motor}
 use Rattle.rules.specs.declared.Status.{Status}
 use Rattle.rules.specs.Record.{withStatus}
-use Rattle.rules.specs.Steps.{step}
+use Rattle.rules.specs.declared.Reading.{Reading}
+use Rattle.rules.specs.Steps.{reading, step}
 use Rattle.rules.specs.Resting.{rests, restedStatus}
 use Rattle.rules.specs.Refusals.{mostMotors, inRange, wordOk, periodOk, allOk, misfit, oneRefusal, oneAfter, stepAll, tableRefusal, partRefusal, partAfter}
 use Rattle.rules.proofs.Range.{one-in-limits, steppable}
 use Rattle.rules.proofs.Resting.{resting}
 use Rattle.rules.proofs.Tables.{one-accepted, allOk-at, one-accepts, Accepted, accepted, none-stepped, not-yet, one-more, length-stepAll, part-stepped, part-front}
+use Rattle.words.proofs.Laws.{and-true}
+use Rattle.totals.specs.declared.Totals.{Totals}
+use Rattle.totals.specs.Running.{onAfter, totalsAfter, scanTotals, allTotals}
+use Rattle.totals.proofs.Lists.{none-taken, length-totals, totals-not-yet, one-taken}
+use Rattle.totals.proofs.AtRest.{withOn, rest-totals}
 use types.Run.{OneOf, miss}
 use denote.Enum.Declared.{tagOf}
 use Rattle.sheet.proofs.Request.{the-type}
@@ -32,7 +38,7 @@ use Rattle.report.proofs.PutLaws.{put-none, then as and-then}
 use Rattle.interpreter.specs.State.{nextNumber, scanRefusal, refusalFor, viewOf}
 use Rattle.interpreter.specs.Print.{motorRow, rowsOf}
 use Rattle.interpreter.specs.Advance.{mostPut}
-use Rattle.interpreter.specs.Inputs.{Run, Scans, Ready}
+use Rattle.interpreter.specs.Runs.{Run, Scans, Ready}
 use Rattle.interpreter.specs.declared.Bench.{Bench}
 use Rattle.interpreter.specs.declared.Sitting.{Sitting}
 use Rattle.interpreter.specs.declared.Advanced.{Advanced}
@@ -47,20 +53,30 @@ use Rattle.interpreter.proofs.AdvanceLaws.{standing, scans-more}
 
 -- at rest
 rested : (m : Motor) (word period : ℕ) → oneRefusal m word period ≡ 0 → rests (m .settings) (m .status) (m .output) word ≡ true
-    → withStatus m (restedStatus (m .settings) (m .status) word) ≡ step m word period
+    → step m word period ≡ withStatus m (restedStatus (m .settings) (m .status) word (reading (m .settings) word))
 unfolding wordOk
 rested m word period h e =
     let a = one-in-limits m word period h in
-    sym (resting m word period (omega (arith, leb-true word 131071 (a .input))) (omega (arith, steppable a .previous)) e)
+    resting m word period (omega (arith, leb-true word 131071 (a .input))) (omega (arith, steppable a .previous)) e
 
--- a list with the motor after its scan, at rest or not
-module _ (ms : List Motor) (i : ℕ) (m : Motor) (word period : ℕ) (ok : oneRefusal m word period ≡ 0) where
-  pub set-rested : {v : Status} → rests (m .settings) (m .status) (m .output) word ≡ true → v ≡ restedStatus (m .settings) (m .status) word
-      → set ms i (withStatus m v) ≡ set ms i (step m word period)
-  set-rested e f = ap (set ms i) (ap (withStatus m) f ∙ rested m word period ok e)
+-- lists with the motor and its totals after its scan, at rest or not
+module _ (ms : List Motor) (ts : List Totals) (i : ℕ) (m : Motor) (t : Totals) (word period : ℕ) (ok : oneRefusal m word period ≡ 0) {r : Reading} (read : r ≡ reading (m .settings) word) where
+  module _ (e : rests (m .settings) (m .status) (m .output) word ≡ true) where
+    pub set-rested : {v : Status} → v ≡ restedStatus (m .settings) (m .status) word r → set ms i (withStatus m v) ≡ set ms i (step m word period)
+    set-rested f = ap (set ms i) (ap (withStatus m) (rw read at f) ∙ sym (rested m word period ok e))
 
-  pub set-scanned : {n : Motor} → n ≡ oneAfter m word period → set ms i n ≡ set ms i (step m word period)
-  set-scanned f = ap (set ms i) (f ∙ one-accepted m word period ok)
+    pub set-rested-totals : {on : ℕ} → on ≡ onAfter (t .on) r period → set ts i (withOn t on) ≡ set ts i (scanTotals t m word period)
+    unfolding scanTotals rests withStatus
+    set-rested-totals f =
+        ap (set ts i) (rw (rested m word period ok e, f, read) (sym (rest-totals t m word period (reading (m .settings) word) (and-true _ _ (and-true _ _ e .0) .0))))
+
+  module _ {n : Motor} (f : n ≡ oneAfter m word period) where
+    pub set-scanned : set ms i n ≡ set ms i (step m word period)
+    set-scanned = ap (set ms i) (f ∙ one-accepted m word period ok)
+
+    pub set-scanned-totals : {u : Totals} → u ≡ totalsAfter t m (n .status) r period → set ts i u ≡ set ts i (scanTotals t m word period)
+    unfolding scanTotals
+    set-scanned-totals g = ap (set ts i) (rw (f, one-accepted m word period ok, read) at g)
 
 -- ---- the motors in use
 
@@ -85,18 +101,19 @@ module _ (motors : List Motor) (words : List ℕ) (held : ℕ) (few : held ≤ m
     range-kept : allOk inRange (take held (partAfter motors held words period)) ≡ true
     range-kept = rw (part-front motors held words period few (in-array held motors is few)) (after-in-range (take held motors) (take held words) period records right)
 
--- ---- the first i motors are scanned and printed
+-- ---- the first i motors are scanned, counted and printed
 
-pub record Scanning (motors₀ : List Motor) (words : List ℕ) (period scans : ℕ) (out₀ : List ℕ) (to₀ : ℕ) (motors : List Motor) (out : List ℕ) (to i : ℕ) : Type 0 where
+pub record Scanning (motors₀ : List Motor) (sums₀ : List Totals) (words : List ℕ) (period scans : ℕ) (out₀ : List ℕ) (to₀ : ℕ) (motors : List Motor) (sums : List Totals) (out : List ℕ) (to i : ℕ) : Type 0 where
   pub records : motors ≡ stepAll motors₀ (take i words) period
+  pub totals : sums ≡ allTotals sums₀ motors₀ (take i words) period
   pub put : Put out₀ to₀ (rowsOf scans 1 (take i motors)) out to
 
-module _ {motors₀ : List Motor} {words : List ℕ} {period scans : ℕ} {out₀ : List ℕ} {to₀ : ℕ} where
-  pub scanning-none : Scanning motors₀ words period scans out₀ to₀ motors₀ out₀ to₀ 0
+module _ {motors₀ : List Motor} {sums₀ : List Totals} {words : List ℕ} {period scans : ℕ} {out₀ : List ℕ} {to₀ : ℕ} where
+  pub scanning-none : Scanning motors₀ sums₀ words period scans out₀ to₀ motors₀ sums₀ out₀ to₀ 0
   unfolding rowsOf
-  scanning-none = record { records = sym (none-stepped motors₀ period); put = put-none }
+  scanning-none = record { records = sym (none-stepped motors₀ period); totals = sym (none-taken sums₀ motors₀ period); put = put-none }
 
-  module _ {motors : List Motor} {out : List ℕ} {to i : ℕ} (s : Scanning motors₀ words period scans out₀ to₀ motors out to i) where
+  module _ {motors : List Motor} {sums : List Totals} {out : List ℕ} {to i : ℕ} (s : Scanning motors₀ sums₀ words period scans out₀ to₀ motors sums out to i) where
     -- the next one stands as it was
     pub waiting : (d : Motor) → getD motors i d ≡ getD motors₀ i d
     waiting d = rw (s .records) (not-yet motors₀ words period i d)
@@ -104,13 +121,19 @@ module _ {motors₀ : List Motor} {words : List ℕ} {period scans : ℕ} {out�
     same-size : length motors ≡ length motors₀
     same-size = rw (s .records) (length-stepAll motors₀ (take i words) period)
 
-    -- it is scanned and printed
-    pub scanning-more : (d : Motor) {later : List Motor} {after : List ℕ} {next : ℕ} → i < length motors₀ → i < length words
-        → later ≡ set motors i (step (getD motors i d) (getD words i 0) period) → Put out to (rowOf (motorRow scans (i + 1) (getD later i d))) after next
-        → Scanning motors₀ words period scans out₀ to₀ later after next (i + 1)
-    scanning-more d {later} l m e p =
+    pub same-sums : length sums ≡ length sums₀
+    same-sums = rw (s .totals) (length-totals sums₀ motors₀ (take i words) period)
+
+    -- it is scanned, counted and printed
+    pub scanning-more : (d : Motor) (z : Totals) {later : List Motor} {counted : List Totals} {after : List ℕ} {next : ℕ} → i < length motors₀ → i < length sums₀ → i < length words
+        → later ≡ set motors i (step (getD motors i d) (getD words i 0) period)
+        → counted ≡ set sums i (scanTotals (getD sums i z) (getD motors i d) (getD words i 0) period)
+        → Put out to (rowOf (motorRow scans (i + 1) (getD later i d))) after next
+        → Scanning motors₀ sums₀ words period scans out₀ to₀ later counted after next (i + 1)
+    scanning-more d z {later} l k m e f p =
         record {
           records = e ∙ rw (waiting d, s .records, add-one i) (one-more motors₀ words period i d l m);
+          totals = f ∙ rw (waiting d, s .totals, totals-not-yet sums₀ motors₀ words period i z, add-one i) (one-taken sums₀ motors₀ words period i z d k l m);
           put =
               let size : i < length later = omega (arith, ap length e, length-set motors i (step (getD motors i d) (getD words i 0) period), same-size) in
               let front : take i later ≡ take i motors = ap (take i) e ∙ take-set-le i motors i _ (omega arith) in
@@ -127,7 +150,7 @@ one-right : periodOk 1 ≡ true
 unfolding periodOk
 one-right = refl
 
-module _ (b : Bench) (is : length (b .motors) ≡ 32) (js : length (b .words) ≡ 32) where
+module _ (b : Bench) (is : length (b .motors) ≡ 32) (ts : length (b .totals) ≡ 32) (js : length (b .words) ≡ 32) where
   accepting : (period : ℕ) → refusalFor (viewOf b) (S period) ≡ 0
       → Accepted (take (min (b .count) mostMotors) (b .motors)) (take (min (b .count) mostMotors) (b .words)) period
   unfolding refusalFor scanRefusal
@@ -136,7 +159,7 @@ module _ (b : Bench) (is : length (b .motors) ≡ 32) (js : length (b .words) �
   -- where one of period 1 is, records and words are in range
   pub ready-if : partRefusal (b .motors) (min (b .count) mostMotors) (b .words) 1 ≡ 0
       → (allOk inRange (take (min (b .count) mostMotors) (b .motors)) ≡ true) × (allOk wordOk (take (min (b .count) mostMotors) (b .words)) ≡ true)
-  ready-if h = let a = accepting 1 (sym (scan-refusal b is js 1) ∙ h) in (a .records, a .words)
+  ready-if h = let a = accepting 1 (sym (scan-refusal b is ts js 1) ∙ h) in (a .records, a .words)
 
   -- and where it is not, none is
   pub unready : (period : ℕ) → (partRefusal (b .motors) (min (b .count) mostMotors) (b .words) 1 ≡ 0 → ⊥) → refusalFor (viewOf b) (S period) ≡ 0 → ⊥
@@ -150,7 +173,7 @@ module _ (b : Bench) (is : length (b .motors) ≡ 32) (js : length (b .words) �
 
 -- ---- a run of I lines and an S line, whose motors are all scanned and printed
 
-module _ {file : List ℕ} {s : Sitting} {out : List ℕ} {to last : ℕ} {here : Sitting} {after : List ℕ} {n : ℕ} (r : Scans file s out to last after (record { sitting = here; to = n })) (i : Inputs) (is : length (here .bench .motors) ≡ 32) (js : length (here .bench .words) ≡ 32) (ready : Ready here) (run : Run file (min (here .bench .count) mostMotors) (here .bench .words) (here .at) (here .line) i) where
+module _ {file : List ℕ} {s : Sitting} {out : List ℕ} {to last : ℕ} {here : Sitting} {after : List ℕ} {n : ℕ} (r : Scans file s out to last after (record { sitting = here; to = n })) (i : Inputs) (is : length (here .bench .motors) ≡ 32) (ts : length (here .bench .totals) ≡ 32) (js : length (here .bench .words) ≡ 32) (ready : Ready here) (run : Run file (min (here .bench .count) mostMotors) (here .bench .words) (here .at) (here .line) i) where
   abbrev held : ℕ
   held = min (here .bench .count) mostMotors
 
@@ -168,9 +191,9 @@ module _ {file : List ℕ} {s : Sitting} {out : List ℕ} {to last : ℕ} {here 
     pub each-due : (k : ℕ) (d : Motor) → k < min (here .bench .count) mostMotors → oneRefusal (getD (here .bench .motors) k d) (getD (i .words) k 0) period ≡ 0
     each-due k d l = due (here .bench .motors) (i .words) held few is js₁ (ready .records) right period time k d l
 
-    module _ {motors : List Motor} {later : List ℕ} {m k : ℕ} (all : k ≡ min (here .bench .count) mostMotors) (scan : Scanning (here .bench .motors) (i .words) period (nextNumber (here .bench .scans)) after n motors later m k) where
+    module _ {motors : List Motor} {sums : List Totals} {later : List ℕ} {m k : ℕ} (all : k ≡ min (here .bench .count) mostMotors) (scan : Scanning (here .bench .motors) (here .bench .totals) (i .words) period (nextNumber (here .bench .scans)) after n motors sums later m k) where
       abbrev pub afterScan : Advanced
-      afterScan = standing (record { motors = motors; words = i .words; count = here .bench .count; scans = nextNumber (here .bench .scans) }) next (nextNumber (i .line)) m
+      afterScan = standing (record { motors = motors; totals = sums; words = i .words; count = here .bench .count; scans = nextNumber (here .bench .scans) }) next (nextNumber (i .line)) m
 
       accepted-scan : partRefusal (here .bench .motors) held (i .words) period ≡ 0
       accepted-scan = all-due (here .bench .motors) (i .words) held few is js₁ (ready .records) right period time
@@ -178,16 +201,20 @@ module _ {file : List ℕ} {s : Sitting} {out : List ℕ} {to last : ℕ} {here 
       all-scanned : motors ≡ partAfter (here .bench .motors) held (i .words) period
       all-scanned = scanned scan all accepted-scan
 
+      all-counted : sums ≡ allTotals (here .bench .totals) (here .bench .motors) (take held (i .words)) period
+      all-counted = scan .totals ∙ ap (λ (k : ℕ). allTotals (here .bench .totals) (here .bench .motors) (take k (i .words)) period) all
+
       size : length motors ≡ 32
       size = same-size scan ∙ is
 
       pub line-scanned : n ≤ last → last + mostPut ≤ length out
-          → (length motors ≡ 32) × (length (i .words) ≡ 32) × Ready (afterScan .sitting) × Scans file s out to last later afterScan
+          → (length motors ≡ 32) × (length sums ≡ 32) × (length (i .words) ≡ 32) × Ready (afterScan .sitting) × Scans file s out to last later afterScan
       line-scanned h room = (
         size,
+        same-sums scan ∙ ts,
         js₁,
         record { records = rw all-scanned (range-kept (here .bench .motors) (i .words) held few is js₁ (ready .records) right period time); words = right },
-        scans-more r i is js run found accepted-scan all-scanned h room (rw (take-used (here .bench .count) motors size, ← all) (scan .put)),
+        scans-more r i is ts js run found accepted-scan all-scanned all-counted h room (rw (take-used (here .bench .count) motors size, ← all) (scan .put)),
       )
 
 -- ---- which line stands at a place

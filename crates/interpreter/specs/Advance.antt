@@ -1,17 +1,20 @@
 -- What a call that takes the next lines of a file does: it puts what they print into the lent buffer.
 use Prim.Native.Nat.{ℕ, _+_, _<_, _≤_}
 use mathlib.Core.Path.{_≡_}
-use mathlib.Core.List.{List, [], _++_}
+use mathlib.Core.List.{List, [], _∷_, _++_}
 use lib.ListN.{length}
 use Rattle.words.specs.Word.{if_then_else_}
+use Rattle.rules.specs.declared.Motor.{Motor}
+use Rattle.rules.specs.Record.{idle}
+use Rattle.totals.specs.declared.Totals.{Totals}
 use Rattle.sheet.specs.Grammar.{nextAt}
 use Rattle.sheet.specs.declared.Request.{Request}
 use Rattle.sheet.specs.declared.Request.the-variants.{Scan as S}
 use Rattle.sheet.specs.declared.Next.the-variants.{Taken, Done}
 use Rattle.report.specs.Put.{Put}
-use Rattle.report.specs.Print.{refusalOf}
+use Rattle.report.specs.Print.{totalsRowOf, refusalOf}
 use Rattle.interpreter.specs.State.{State, emptyState, nextNumber, refusalFor, changed, viewOf}
-use Rattle.interpreter.specs.Print.{answerOf, atEnd, tooLong}
+use Rattle.interpreter.specs.Print.{answerOf, totalsRow, tooLong}
 use Rattle.interpreter.specs.declared.Sitting.{Sitting}
 use Rattle.interpreter.specs.declared.Advanced.{Advanced}
 
@@ -27,6 +30,19 @@ placeOf s = record { at = s .at; state = viewOf (s .bench); line = s .line }
 abbrev pub over : List ℕ → Place → Place
 over file p = record { at = length file + 1; state = p .state; line = p .line }
 
+-- What is printed where a bench comes to the end of a file without a refusal: its running totals, which are those of the histories if it began
+-- empty (proofs/Histories.antt)
+unfoldable pub underWay : Motor → ℕ
+underWay m = if idle (m .status) then 0 else 1
+
+unfoldable pub runningPrint : ℕ → List Motor → List Totals → List ℕ
+runningPrint number [] ts = []
+runningPrint number (m ∷ ms) [] = []
+runningPrint number (m ∷ ms) (t ∷ ts) = totalsRowOf (totalsRow number (underWay m) t) ++ runningPrint (number + 1) ms ts
+
+unfoldable pub atEnd : State → List ℕ
+atEnd t = runningPrint 1 (t .motors) (t .totals)
+
 -- Lines taken one after another, from a place on: what they print, and the place that they lead to. A refused line is the last, and leaves
 -- the state as it was; so does the end of the file.
 pub data Through (file : List ℕ) (from : Place) : List ℕ → Place → Type 0 where
@@ -39,9 +55,9 @@ pub data Through (file : List ℕ) (from : Place) : List ℕ → Place → Type 
   ended : {piece : List ℕ} {p : Place} → Through file from piece p → p .at ≤ length file → nextAt file (p .at) ≡ Done
       → Through file from (piece ++ atEnd (p .state)) (over file p)
 
--- Most that one line prints: a row of 90 bytes for each of 32 motors
+-- Most that one line prints, or the end: for each of 32 motors a row of 90 bytes, or of 101
 abbrev pub mostPut : ℕ
-mostPut = 2880
+mostPut = 3232
 
 -- The line at a sitting's place is no S line that is accepted.
 abbrev pub NoScan : List ℕ → Sitting → Type 0

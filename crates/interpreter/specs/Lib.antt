@@ -1,5 +1,6 @@
 pub mod State
+pub mod Histories
 pub mod Print
 pub mod Advance
-pub mod Inputs
+pub mod Runs
 pub mod Opened

@@ -10,8 +10,12 @@ use Rattle.sheet.specs.declared.Request.{Request}
 use Rattle.sheet.specs.declared.Request.the-variants.{Motor as M, Input as I, Scan as S, Refused}
 use Rattle.sheet.specs.Grammar.{requestsOf}
 use Rattle.report.specs.declared.Row.{Row}
-use Rattle.report.specs.Print.{rowOf, refusalOf}
+use Rattle.report.specs.declared.TotalsRow.{TotalsRow}
+use Rattle.report.specs.Print.{rowOf, totalsRowOf, refusalOf}
+use Rattle.totals.specs.declared.Totals.{Totals}
+use Rattle.totals.specs.Totals.{underWayOf, totalsOf}
 use Rattle.interpreter.specs.State.{State, emptyState, nextNumber, refusalFor, changed}
+use Rattle.interpreter.specs.Histories.{Course, coursesOf}
 
 -- `R,scan,number,mode,position,command,end,output,flags`
 unfoldable pub motorRow : ℕ → ℕ → Motor → Row
@@ -39,9 +43,26 @@ answerOf t (I number word) = []
 answerOf t (S period) = rowsOf (t .scans) 1 (t .motors)
 answerOf t Refused = []
 
--- What is printed once a file has been read to its end without a refusal: nothing
-unfoldable pub atEnd : State → List ℕ
-atEnd t = []
+-- What is printed once a file has been read to its end without a refusal (change request 2): one line a motor, by rising number, from a number
+-- on. `T,number,issued,confirmed,displaced,overdue,under way,on,best,worst`
+unfoldable pub totalsRow : ℕ → ℕ → Totals → TotalsRow
+totalsRow number underway t =
+    record {
+      number = number;
+      issued = t .issued;
+      confirmed = t .confirmed;
+      displaced = t .displaced;
+      overdue = t .overdue;
+      underway = underway;
+      on = t .on;
+      best = t .best;
+      worst = t .worst;
+    }
+
+unfoldable pub totalsPrint : ℕ → List Course → List ℕ
+totalsPrint number [] = []
+totalsPrint number (c ∷ cs) =
+    totalsRowOf (totalsRow number (underWayOf (c .settings) (c .history)) (totalsOf (c .settings) (c .history))) ++ totalsPrint (number + 1) cs
 
 -- The prints of the lines that make these requests, the first of them line number k, and then of the end. "A refusal prints
 -- `E,line,refusal` and the program stops."
@@ -62,6 +83,9 @@ linesPrint file = printFrom nothing (requestsOf file) emptyState 1
 unfoldable pub tooLong : ℕ → Bool
 tooLong n = ltb 65536 n
 
--- The whole print. Lines of the file are counted from 1.
+-- The whole print. Lines of the file are counted from 1, and so are motors. The end of the file is printed only if no line is refused, so the
+-- courses are those of all its lines.
 unfoldable pub printOf : List ℕ → List ℕ
-printOf file = if tooLong (length file) then refusalOf 0 1 else printFrom atEnd (requestsOf file) emptyState 1
+printOf file =
+    if tooLong (length file) then refusalOf 0 1
+    else printFrom (λ t. totalsPrint 1 (coursesOf (requestsOf file))) (requestsOf file) emptyState 1

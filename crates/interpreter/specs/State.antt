@@ -13,16 +13,19 @@ use Rattle.rules.specs.Refusals.{mostMotors, settingsInRange, wordOk, tableRefu
 use Rattle.sheet.specs.declared.Request.{Request}
 use Rattle.sheet.specs.declared.Request.the-variants.{Motor as M, Input as I, Scan as S, Refused}
 use Rattle.sheet.specs.Grammar.{requestRefusal}
+use Rattle.totals.specs.declared.Totals.{Totals}
+use Rattle.totals.specs.Running.{noTotals, allTotals}
 use Rattle.interpreter.specs.declared.Bench.{Bench}
 
--- The motors by rising number, the word that each holds, and how many scans were accepted
+-- The motors by rising number, their running totals (change request 2), the word that each holds, and how many scans were accepted
 pub record State : Type 0 where
   pub motors : List Motor
+  pub totals : List Totals
   pub words : List ℕ
   pub scans : ℕ
 
 unfoldable pub emptyState : State
-emptyState = record { motors = []; words = []; scans = 0 }
+emptyState = record { motors = []; totals = []; words = []; scans = 0 }
 
 -- The next number of a scan or of a line, from 1 on. They are 32-bit words; a file of 65,536 bytes has far fewer lines.
 unfoldable pub nextNumber : ℕ → ℕ
@@ -39,7 +42,13 @@ motorRefusal held scans number s =
 
 -- It "adds a motor", a fresh one; the word that it holds is 0 before the first I.
 unfoldable pub withMotor : State → Settings → State
-withMotor t s = record { motors = t .motors ++ (fresh s ∷ []); words = t .words ++ (0 ∷ []); scans = t .scans }
+withMotor t s =
+    record {
+      motors = t .motors ++ (fresh s ∷ []);
+      totals = t .totals ++ (noTotals ∷ []);
+      words = t .words ++ (0 ∷ []);
+      scans = t .scans;
+    }
 
 -- `I,number,word`: 10, 3
 unfoldable pub isThere : ℕ → ℕ → Bool
@@ -50,7 +59,7 @@ inputRefusal held number word = if not (isThere held number) then 10 else if not
 
 -- It "sets the word it holds from then on".
 unfoldable pub withWords : State → List ℕ → State
-withWords t words = record { motors = t .motors; words = words; scans = t .scans }
+withWords t words = record { motors = t .motors; totals = t .totals; words = words; scans = t .scans }
 
 unfoldable pub withWord : State → ℕ → ℕ → State
 withWord t number word = withWords t (set (t .words) (number - 1) word)
@@ -61,7 +70,13 @@ unfoldable pub scanRefusal : State → ℕ → ℕ
 scanRefusal t period = tableRefusal (t .motors) (t .words) period
 
 unfoldable pub withScan : State → ℕ → State
-withScan t period = record { motors = tableAfter (t .motors) (t .words) period; words = t .words; scans = nextNumber (t .scans) }
+withScan t period =
+    record {
+      motors = tableAfter (t .motors) (t .words) period;
+      totals = allTotals (t .totals) (t .motors) (t .words) period;
+      words = t .words;
+      scans = nextNumber (t .scans);
+    }
 
 -- The refusal of a line's request; 5, of a line that makes none, comes before all else.
 unfoldable pub refusalFor : State → Request → ℕ
@@ -86,4 +101,10 @@ statesAfter t (r ∷ rs) = statesAfter (stateAfter t r) rs
 
 -- The state that a bench holds: of its arrays, the first `count` elements. Nothing depends on what lies past them.
 abbrev pub viewOf : Bench → State
-viewOf b = record { motors = take (b .count) (b .motors); words = take (b .count) (b .words); scans = b .scans }
+viewOf b =
+    record {
+      motors = take (b .count) (b .motors);
+      totals = take (b .count) (b .totals);
+      words = take (b .count) (b .words);
+      scans = b .scans;
+    }

@@ -1,7 +1,9 @@
 // What a request does to a bench.
 ghost use mathlib.Core.Path.{_≡_};
 ghost use Prim.Native.Nat.{min, _≤_};
-ghost use Rattle.rules.specs.Refusals.{mostMotors};
+ghost use lib.ListN.{take};
+ghost use Rattle.rules.specs.Refusals.{mostMotors, stepAll};
+ghost use Rattle.totals.specs.Running.{allTotals};
 ghost use Rattle.interpreter.specs.State.{emptyState, nextNumber, motorRefusal, inputRefusal, isThere, refusalFor, stateAfter, viewOf};
 ghost use Rattle.sheet.specs.declared.Request.the-variants.{Motor as M, Input as I, Scan as S};
 use crate::Acted;
@@ -9,7 +11,9 @@ use crate::Bench;
 use rules::Motor;
 use rules::Settings;
 use sheet::Request;
+use status::switches::read;
 use table::MOST_MOTORS;
+use totals::Totals;
 use words::choose;
 
 // How many motors a bench has: a count past its arrays counts as all of them.
@@ -42,8 +46,10 @@ pub fn empty() -> Bench
     };
     let unused = book::start(none);
     let motors = [unused; MOST_MOTORS];
+    let totals = [totals::none(); MOST_MOTORS];
     Bench {
         motors,
+        totals,
         words: [0; MOST_MOTORS],
         count: 0,
         scans: 0,
@@ -86,6 +92,7 @@ fn add(b: Bench, number: u32, s: Settings) -> Acted
         let fresh = book::start(s);
         let mut n = b;
         n.motors[at] = fresh;
+        n.totals[at] = totals::none();
         n.words[at] = 0;
         n.count = at + 1;
         return Acted { refusal, bench: n };
@@ -116,18 +123,47 @@ pub fn scan_refusal(b: Bench, period: u32) -> u32
     table::refusal_array(motors, in_use(b.count), words, period)
 }
 
+// The totals after a scan of the first motors, with their records before it and after it.
+fn totals_after(
+    totals: [Totals; MOST_MOTORS],
+    motors: [Motor; MOST_MOTORS],
+    after: [Motor; MOST_MOTORS],
+    words: [u32; MOST_MOTORS],
+    held: usize,
+    period: u32,
+) -> [Totals; MOST_MOTORS]
+    requires { ⌜ (held ≤ mostMotors) × (after ≡ stepAll motors (take held words) period) ⌝ }
+    ensures { λ r. ⌜ r ≡ allTotals totals motors (take held words) period ⌝ }
+{
+    let mut sums = totals;
+    let mut i: usize = 0;
+    while i < held {
+        let m = motors[i];
+        let s = m.settings;
+        let stepped = after[i];
+        let v = stepped.status;
+        sums[i] = totals::after(sums[i], m, v, read(s, words[i]), period);
+        i += 1;
+    }
+    sums
+}
+
 // S: the table's scan.
 fn scan(b: Bench, period: u32) -> Acted
     ensures { λ r. ⌜ (r .refusal ≡ refusalFor (viewOf b) (S period)) × (viewOf (r .bench) ≡ stateAfter (viewOf b) (S period)) ⌝ }
 {
     let motors = b.motors;
     let words = b.words;
-    let scanned = table::scan_array(motors, in_use(b.count), words, period);
+    let held = in_use(b.count);
+    let scanned = table::scan_array(motors, held, words, period);
     let refusal = scanned.refusal;
     if refusal == 0 {
         let records = scanned.records;
+        let totals = b.totals;
+        let sums = totals_after(totals, motors, records, words, held, period);
         let mut n = b;
         n.motors = records;
+        n.totals = sums;
         n.scans = next_number(b.scans);
         return Acted { refusal, bench: n };
     }

@@ -4,25 +4,35 @@ ghost use Prim.Native.Nat.{_≤_};
 ghost use lib.ListN.{length};
 ghost use Rattle.sheet.specs.Grammar.{nextAt};
 ghost use Rattle.sheet.specs.declared.Next.the-variants.{Taken};
-ghost use Rattle.interpreter.specs.Advance.{NoScan, RefusedScan, Begin, Advance, Fill};
+ghost use Rattle.report.specs.Put.{Put};
+ghost use Rattle.interpreter.specs.State.{viewOf};
+ghost use Rattle.interpreter.specs.Print.{totalsRow};
+ghost use Rattle.interpreter.specs.Advance.{underWay, atEnd, NoScan, RefusedScan, Begin, Advance, Fill};
 use crate::Advanced;
+use crate::Bench;
 use crate::Sitting;
 use crate::acts::act;
 use crate::acts::empty;
+use crate::acts::in_use;
 use crate::acts::next_number;
 use crate::acts::scan_refusal;
 use crate::scans::stand;
 use crate::scans::take_scans;
+use report::TotalsRow;
 use report::put_refusal;
+use report::put_totals;
+use rules::Motor;
 use sheet::Next;
 use sheet::Request;
 use sheet::next_request;
+use totals::Totals;
+use words::choose;
 
 // The most bytes of a file.
 const LARGEST_FILE: usize = 65536;
 
-// The most bytes that the rows of a scan have.
-const MOST_PUT: usize = 2880;
+// The most bytes that a line of a file prints, or its end.
+const MOST_PUT: usize = 3232;
 
 // An empty bench before the first line of a file. A file that is too long is refused, and has nothing more to print.
 pub fn begin(file: &[u8], out: &mut [u8], to: usize) -> Advanced
@@ -72,6 +82,39 @@ fn take_request(
     stand(bench, file.len() + 1, line, n)
 }
 
+// A motor's T line.
+fn totals_row(number: u32, m: Motor, t: Totals) -> TotalsRow
+    ensures { λ r. ⌜ r ≡ totalsRow number (underWay m) t ⌝ }
+{
+    TotalsRow {
+        number,
+        issued: t.issued,
+        confirmed: t.confirmed,
+        displaced: t.displaced,
+        overdue: t.overdue,
+        underway: choose(m.status.command == 0, 0, 1),
+        on: t.on,
+        best: t.best,
+        worst: t.worst,
+    }
+}
+
+// What is printed at the end of a file: the T lines of a bench.
+fn put_end(b: Bench, out: &mut [u8], to: usize) -> usize
+    ensures { λ r. ⌜ Put (now (out .entry)) to (atEnd (viewOf b)) (now (out .exit)) r ⌝ }
+{
+    let held = in_use(b.count);
+    let mut to = to;
+    let mut i: usize = 0;
+    while i < held {
+        let m = b.motors[i];
+        let t = b.totals[i];
+        to = put_totals(out, to, totals_row(i as u32 + 1, m, t));
+        i += 1;
+    }
+    to
+}
+
 // The next line of a file, that is no accepted scan: what it prints is put from `to` on.
 fn take_line(file: &[u8], s: Sitting, out: &mut [u8], to: usize) -> Advanced
     requires { ⌜ NoScan (now file) s × (s .at ≤ length (now file)) ⌝ }
@@ -84,7 +127,8 @@ fn take_line(file: &[u8], s: Sitting, out: &mut [u8], to: usize) -> Advanced
         },
         Next::Done => {
             let bench = s.bench;
-            stand(bench, file.len() + 1, s.line, to)
+            let n = put_end(bench, out, to);
+            stand(bench, file.len() + 1, s.line, n)
         }
     }
 }

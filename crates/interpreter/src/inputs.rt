@@ -1,7 +1,7 @@
 // Runs of I lines, which touch nothing but the words that the motors hold.
 ghost use Prim.Native.Nat.{_≤_};
 ghost use Rattle.rules.specs.Refusals.{mostMotors};
-ghost use Rattle.interpreter.specs.Inputs.{Found, Run};
+ghost use Rattle.interpreter.specs.Runs.{Found, Run};
 use crate::acts::input_refusal;
 use crate::acts::next_number;
 use sheet::Next;

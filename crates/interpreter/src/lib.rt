@@ -11,10 +11,12 @@ pub use course::begin;
 pub use course::fill;
 use rules::Motor;
 use table::MOST_MOTORS;
+use totals::Totals;
 
-// The first `count` elements of the arrays are in use: the motors by rising number, and the word that each holds.
+// The first `count` elements of the arrays are in use: the motors by rising number, their totals, and the word that each holds.
 pub struct Bench {
     pub motors: [Motor; MOST_MOTORS],
+    pub totals: [Totals; MOST_MOTORS],
     pub words: [u32; MOST_MOTORS],
     pub count: usize,
     pub scans: u32,

@@ -2,7 +2,7 @@
 // to copy.
 ghost use mathlib.Core.Path.{_≡_};
 ghost use Rattle.interpreter.specs.Print.{motorRow};
-ghost use Rattle.interpreter.specs.Inputs.{FoundScan, Ready, Room, Scans, Over};
+ghost use Rattle.interpreter.specs.Runs.{FoundScan, Ready, Room, Scans, Over};
 use crate::Advanced;
 use crate::Bench;
 use crate::Sitting;
@@ -15,6 +15,7 @@ use rules::Motor;
 use sheet::Next;
 use sheet::Request;
 use sheet::next_request;
+use status::switches::read;
 
 // An S line whose period is one of a scan, with the place of the next line; or any other line.
 pub enum NextScan {
@@ -72,6 +73,7 @@ fn scan_lines(file: &[u8], s: Sitting, out: &mut [u8], to: usize, last: usize) -
     let count = bench.count;
     let held = in_use(count);
     let mut motors = bench.motors;
+    let mut sums = bench.totals;
     let mut words = bench.words;
     let mut scans = bench.scans;
     let mut at = s.at;
@@ -85,6 +87,7 @@ fn scan_lines(file: &[u8], s: Sitting, out: &mut [u8], to: usize, last: usize) -
         let NextScan::Period { period, next } = next_scan(file, at) else {
             let b = Bench {
                 motors,
+                totals: sums,
                 words,
                 count,
                 scans,
@@ -100,13 +103,19 @@ fn scan_lines(file: &[u8], s: Sitting, out: &mut [u8], to: usize, last: usize) -
             let settings = m.settings;
             let v = m.status;
             let o = m.output;
+            let r = read(settings, word);
             if motor::is_resting(settings, v, o, word) {
                 let mut rested = motors[i];
-                rested.status = motor::rest(settings, v, word);
+                rested.status = motor::rest(settings, v, word, r);
                 motors[i] = rested;
+                let mut counted = sums[i];
+                counted.on = totals::on_after(counted.on, r, period);
+                sums[i] = counted;
             } else {
                 let scanned = motor::scan(motors[i], word, period);
                 let stepped = scanned.motor;
+                let w = stepped.status;
+                sums[i] = totals::after(sums[i], motors[i], w, r, period);
                 motors[i] = stepped;
             }
             let after = motors[i];
@@ -118,6 +127,7 @@ fn scan_lines(file: &[u8], s: Sitting, out: &mut [u8], to: usize, last: usize) -
     }
     let b = Bench {
         motors,
+        totals: sums,
         words,
         count,
         scans,

@@ -4,6 +4,7 @@ ghost use Rattle.rules.specs.Resting.{rests, restedStatus};
 use crate::output::is_running;
 use crate::steps::idle_status;
 use rules::Output;
+use rules::Reading;
 use rules::Settings;
 use rules::Status;
 use status::issue::keep_word;
@@ -16,9 +17,9 @@ pub fn is_resting(s: Settings, v: Status, o: Output, word: u32) -> bool
     (v.command == 0) & !is_running(s, o) & (masked_out(word, v.previous) == 0)
 }
 
-// What a scan makes of the status of such a motor.
-pub fn rest(s: Settings, v: Status, word: u32) -> Status
-    ensures { λ r. ⌜ r ≡ restedStatus s v word ⌝ }
+// What a scan that reads r makes of the status of such a motor.
+pub fn rest(s: Settings, v: Status, word: u32, r: Reading) -> Status
+    ensures { λ x. ⌜ x ≡ restedStatus s v word r ⌝ }
 {
-    keep_word(idle_status(s, v, word), word)
+    keep_word(idle_status(s, v, word, r), word)
 }

@@ -91,10 +91,9 @@ pub fn issue_any(m: Motor, c: u32) -> Motor
 }
 
 // Steps 1, 2 and 5.
-pub fn idle_status(s: Settings, v: Status, word: u32) -> Status
-    ensures { λ r. ⌜ r ≡ idleStatus s v word ⌝ }
+pub fn idle_status(s: Settings, v: Status, word: u32, r: Reading) -> Status
+    ensures { λ x. ⌜ x ≡ idleStatus s v word r ⌝ }
 {
-    let r = read(s, word);
     form_flags(s, switches(s, begin(v, word), r), word, r)
 }
 
@@ -107,7 +106,7 @@ pub fn first_steps(m: Motor, word: u32, period: u32) -> Motor
     let v = m.status;
     let o = m.output;
     if (v.command == 0) & !is_running(s, o) {
-        return with_status(m, idle_status(s, v, word));
+        return with_status(m, idle_status(s, v, word, read(s, word)));
     }
     let r = read(s, word);
     let begun = with_status(m, switches(s, begin(v, word), r));

@@ -11,7 +11,7 @@ use Rattle.rules.specs.declared.Status.{Status}
 use Rattle.rules.specs.declared.Motor.{Motor}
 use Rattle.rules.specs.Record.{commands, inputBit, bitRisen, commandRisen, idle, withMode, withPositions, withCommand, withFlags, withStatus}
 use Rattle.rules.specs.Resting.{idleStatus}
-use Rattle.rules.specs.Steps.{status1, status2, step3, step4, status4, end4, flags4, ended, confirmed, overdue, drops, running, status5, modesRisen, modeChanges, status6, acknowledgesOff, acknowledgesOn, flags7, status7, candidate, firstOf, chosen, starts, displaces, issues, issued, step9, status10, steps1to5, steps6to10, step}
+use Rattle.rules.specs.Steps.{status1, reading, status2, step3, step4, status4, end4, flags4, ended, confirmed, overdue, drops, running, status5, modesRisen, modeChanges, status6, acknowledgesOff, acknowledgesOn, flags7, status7, candidate, firstOf, chosen, starts, displaces, issues, issued, step9, status10, steps1to5, steps6to10, step}
 
 module _ (s : Settings) (v : Status) (word : ℕ) (hw : word < 2 ^ 32) (hp : v .previous < 2 ^ 32) (none : without (v .previous) word ≡ 0) where
   no-bit : (k : ℕ) → bitRisen v word k ≡ false
@@ -47,6 +47,6 @@ quiet m word period hw hp none =
 
 -- Where no command is under way and no pulse runs, steps 3 and 4 leave everything as it is.
 pub idle-first : (m : Motor) (word period : ℕ) → idle (m .status) ≡ true → running (m .settings) (m .output) ≡ false
-    → steps1to5 m word period ≡ withStatus m (idleStatus (m .settings) (m .status) word)
+    → steps1to5 m word period ≡ withStatus m (idleStatus (m .settings) (m .status) word (reading (m .settings) word))
 unfolding idleStatus steps1to5 step4 step3 running status4 end4 flags4 ended drops confirmed overdue withCommand withFlags withStatus status2 status1 withPositions idle if_then_else_
 idle-first m word period e f = rw (e, f) refl

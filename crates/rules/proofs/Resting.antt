@@ -7,13 +7,13 @@ use borrow.Author.Tests.{eqb-true, not-true}
 use Rattle.words.specs.Word.{without}
 use Rattle.rules.specs.declared.Motor.{Motor}
 use Rattle.rules.specs.Record.{idle, withStatus}
-use Rattle.rules.specs.Steps.{running, step}
+use Rattle.rules.specs.Steps.{reading, running, step}
 use Rattle.rules.specs.Resting.{rests, restedStatus}
 use Rattle.words.proofs.Laws.{and-true}
 use Rattle.rules.proofs.Quiet.{quiet, idle-first}
 
 pub resting : (m : Motor) (word period : ℕ) → word < 2 ^ 32 → m .status .previous < 2 ^ 32 → rests (m .settings) (m .status) (m .output) word ≡ true
-    → step m word period ≡ withStatus m (restedStatus (m .settings) (m .status) word)
+    → step m word period ≡ withStatus m (restedStatus (m .settings) (m .status) word (reading (m .settings) word))
 unfolding rests restedStatus withStatus
 resting m word period hw hp h =
     let s = m .settings in

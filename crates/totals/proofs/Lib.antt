@@ -4,3 +4,4 @@ pub mod Theorem
 pub mod Running
 pub mod Lists
 pub mod Choices
+pub mod AtRest

@@ -8,6 +8,10 @@ use Rattle.rules.specs.declared.Motor.{Motor}
 use Rattle.totals.specs.declared.Totals.{Totals}
 use Rattle.totals.specs.Running.{scanTotals, allTotals}
 
+-- stands for totals that are not there
+abbrev pub unused : Totals
+unused = record { issued = 0; confirmed = 0; displaced = 0; overdue = 0; on = 0; best = 0; worst = 0 }
+
 pub none-taken : (ts : List Totals) (ms : List Motor) (p : ℕ) → allTotals ts ms [] p ≡ ts
 unfolding allTotals
 none-taken [] ms p = refl

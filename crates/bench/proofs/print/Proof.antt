@@ -5,6 +5,7 @@ use mathlib.Core.Path.{_≡_}
 use lib.ListN.{length}
 use borrow.Author.Tests.{leb-true}
 use Rattle.words.proofs.Laws.{and-true}
+use Rattle.interpreter.specs.Advance.{mostPut}
 use Rattle.bench.proofs.print.Statement.{statement}
 use Rattle.bench.proofs.print.Tie as tie
 
@@ -18,7 +19,7 @@ loop-less : tie.Need-loop-less Inv-loop μ-loop
 loop-less c =
     let l = c .before .before .before .before .before .before .before .before .loop in
     let file = c .before .before .before .before .before .before .before .before .before .before .before .before .before .before .before .before .args .file .now in
-    let room : 2880 ≤ length (l .out) = omega arith in
+    let room : mostPut ≤ length (l .out) = omega arith in
     let i : l .s .at ≤ length file = leb-true _ _ (and-true (l .going) _ (c .before .before .before .before .before .before .if1 .taken) .1) in
     omega (arith, c .before .before .before .before .fill .ensures .further room i)
 

@@ -9,4 +9,4 @@ unfolding emptyState
 returns c = refl
 
 pub empty-spec : {M : Type 1} → statement M
-empty-spec = tie.close (tie.spec (λ c κs. search needs) returns)
+empty-spec = tie.close (tie.spec (λ c κs. search needs) (λ c κs. search needs) returns)

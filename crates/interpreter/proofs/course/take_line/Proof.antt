@@ -1,4 +1,5 @@
 use mathlib.Core.Path.{_≡_, sym, _∙_}
+use lib.ListN.{length-map}
 use Rattle.sheet.specs.Grammar.{nextAt}
 use Rattle.sheet.specs.declared.Request.the-variants.{Scan as S}
 use Rattle.sheet.specs.declared.Next.the-variants.{Taken}
@@ -19,7 +20,10 @@ take-request-requires : tie.Need-take-request-requires
 take-request-requires c κs = (sym (c .before .before .before .before .before .next-request .ensures) ∙ c .before .before .before .request .given .1, c .before .before .before .before .before .before .before .before .pre .0)
 
 returns-3 : tie.Need-returns-3
-returns-3 c = rw (c .stand .ensures) (at-end (c .before .before .before .before .before .before .before .pre .1) (sym (c .before .before .before .before .next-request .ensures) ∙ c .before .before .enum-told .given .1))
+returns-3 c =
+    let e = c .before .before .before .before .before .before .before .before .before .before .before in
+    rw (c .stand .ensures)
+    (at-end (e .pre .1) (sym (c .before .before .before .before .before .before .before .before .next-request .ensures) ∙ c .before .before .before .before .before .before .enum-told .given .1) (simp length-map at (e .good .1 .0 .1 .1 .0 .1 .1 .0 .1 .0 .1)) (c .before .before .before .put-end .ensures))
 
 pub take-line-spec : {M : Type 1} → statement M
-take-line-spec = tie.close (tie.spec (λ c κs. search needs) (λ c. search needs) (λ c. search needs) refuse-scan-requires take-request-requires (λ c. search needs) (λ c. search needs) (λ c κs. search needs) (λ c. search needs) (λ c. search needs) (λ c. search needs) (λ c. search needs) returns-3)
+take-line-spec = tie.close (tie.spec (λ c κs. search needs) (λ c. search needs) (λ c. search needs) refuse-scan-requires take-request-requires (λ c. search needs) (λ c κs. search needs) (λ c. search needs) (λ c κs. search needs) (λ c. search needs) (λ c. search needs) (λ c. search needs) (λ c. search needs) (λ c. search needs) returns-3)

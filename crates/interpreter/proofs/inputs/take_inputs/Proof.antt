@@ -4,7 +4,7 @@ use Prim.Native.Nat.{_-_}
 use lib.ListN.{length}
 use Rattle.rules.specs.Refusals.{mostMotors}
 use Rattle.sheet.proofs.RequestLaws.{taken}
-use Rattle.interpreter.specs.Inputs.{Found, Run}
+use Rattle.interpreter.specs.Runs.{Found, Run}
 use Rattle.interpreter.specs.declared.inputs.NextInput.the-variants.{Word}
 use Rattle.interpreter.proofs.ActLaws.{input-there}
 use Rattle.interpreter.proofs.InputLaws.{run-none, run-more}

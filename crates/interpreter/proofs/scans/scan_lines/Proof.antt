@@ -8,78 +8,94 @@ use lib.ListN.{length, getD, set, length-map}
 use Rattle.rules.specs.Record.{withStatus}
 use Rattle.rules.specs.Steps.{step}
 use Rattle.rules.specs.declared.Motor.{Motor}
+use Rattle.totals.specs.declared.Totals.{Totals}
+use Rattle.totals.specs.Running.{scanTotals}
+use Rattle.totals.proofs.Lists.{unused}
 use Rattle.rules.specs.Refusals.{mostMotors, oneRefusal}
 use Rattle.sheet.proofs.RequestLaws.{taken}
 use Rattle.table.proofs.Rows.{blank}
 use Rattle.report.proofs.PutLaws.{put-length}
-use Rattle.interpreter.specs.Inputs.{FoundScan, Ready, Scans}
+use Rattle.interpreter.specs.Runs.{FoundScan, Ready, Scans}
 use Rattle.interpreter.specs.declared.Sitting.{Sitting}
 use Rattle.interpreter.specs.declared.scans.NextScan.the-variants.{Period}
 use Rattle.interpreter.proofs.AdvanceLaws.{scans-none, scans-inputs}
-use Rattle.interpreter.proofs.ScanLaws.{set-rested, set-scanned, Scanning, scanning-none, scanning-more, waiting, untimely, each-due, line-scanned}
+use Rattle.interpreter.proofs.ScanLaws.{set-rested, set-rested-totals, set-scanned, set-scanned-totals, Scanning, scanning-none, scanning-more, waiting, untimely, each-due, line-scanned}
 use Rattle.interpreter.proofs.scans.scan_lines.Statement.{statement}
 use Rattle.interpreter.proofs.scans.scan_lines.Tie as tie
 
 -- a sitting by its parts
-abbrev sit : List Motor → List ℕ → ℕ → ℕ → ℕ → ℕ → Sitting
-sit motors words count scans at line = record { bench = record { motors = motors; words = words; count = count; scans = scans }; at = at; line = line }
+abbrev sit : List Motor → List Totals → List ℕ → ℕ → ℕ → ℕ → ℕ → Sitting
+sit motors sums words count scans at line = record { bench = record { motors = motors; totals = sums; words = words; count = count; scans = scans }; at = at; line = line }
 
 abbrev Inv-loop2 : tie.InvT-loop2
-Inv-loop2 file out₀ to last count held motors₀ words scans at line to₀ period next i₀ out motors to' i = (i ≤ held) × Scanning motors₀ words period scans out₀ to₀ motors out to' i
+Inv-loop2 file out₀ to last count held motors₀ sums₀ words scans at line to₀ period next i₀ out motors sums to' i = (i ≤ held) × Scanning motors₀ sums₀ words period scans out₀ to₀ motors sums out to' i
 
 abbrev μ-loop2 : tie.MeasureT-loop2
-μ-loop2 file out₀ to last count held motors₀ words scans at line to₀ period next i₀ out motors to' i = held - i
+μ-loop2 file out₀ to last count held motors₀ sums₀ words scans at line to₀ period next i₀ out motors sums to' i = held - i
 
 abbrev Inv-loop : tie.InvT-loop
-Inv-loop file out₀ to last count held motors₀ words₀ scans₀ at₀ line₀ to₀ out motors words scans at line to' = (length motors ≡ 32) × (length words ≡ 32) × Ready (sit motors words count scans at line) × Scans file (sit motors₀ words₀ count scans₀ at₀ line₀) out₀ to₀ last out (record { sitting = sit motors words count scans at line; to = to' })
+Inv-loop file out₀ to last count held motors₀ sums₀ words₀ scans₀ at₀ line₀ to₀ out motors sums words scans at line to' = (length motors ≡ 32) × (length sums ≡ 32) × (length words ≡ 32) × Ready (sit motors sums words count scans at line) × Scans file (sit motors₀ sums₀ words₀ count scans₀ at₀ line₀) out₀ to₀ last out (record { sitting = sit motors sums words count scans at line; to = to' })
 
 abbrev μ-loop : tie.MeasureT-loop
-μ-loop file out₀ to last count held motors₀ words₀ scans₀ at₀ line₀ to₀ out motors words scans at line to' = length file - at
+μ-loop file out₀ to last count held motors₀ sums₀ words₀ scans₀ at₀ line₀ to₀ out motors sums words scans at line to' = length file - at
+
+-- the places on the way: the loop over the motors, the run of I lines before it, the loop over the lines, and the start
+abbrev lines : tie.At-loop2 Inv-loop2 μ-loop2 Inv-loop μ-loop → tie.At-loop Inv-loop2 μ-loop2 Inv-loop μ-loop
+lines c = c .before .before .before .before .before .before .before .before .before
+
+abbrev run : tie.At-loop2 Inv-loop2 μ-loop2 Inv-loop μ-loop → tie.After-take-inputs Inv-loop2 μ-loop2 Inv-loop μ-loop
+run c = c .before .before .before .before .before .before .before
+
+abbrev counted : tie.At-loop Inv-loop2 μ-loop2 Inv-loop μ-loop → tie.After-in-use Inv-loop2 μ-loop2 Inv-loop μ-loop
+counted c = c .before .before .before .before
+
+abbrev start : tie.At-loop Inv-loop2 μ-loop2 Inv-loop μ-loop → tie.Start Inv-loop2 μ-loop2 Inv-loop μ-loop
+start c = c .before .before .before .before .before .before .before .before
 
 -- the S line that was found
 found : (c : tie.At-loop2 Inv-loop2 μ-loop2 Inv-loop μ-loop)
-    → FoundScan (c .before .before .before .before .before .before .before .before .before .before .before .before .before .before .before .before .args .file .now) (c .before .before .before .before .before .before .before .take-inputs .result .at) (Period (c .before .before .before .period .given .0 .0) (c .before .before .before .period .given .0 .1 .0))
+    → FoundScan (start (lines c) .args .file .now) (run c .take-inputs .result .at) (Period (c .before .before .before .period .given .0 .0) (c .before .before .before .period .given .0 .1 .0))
 found c = rw (c .before .before .before .period .given .1) at (c .before .before .before .before .before .next-scan .ensures)
 
 -- the motor whose turn it is
 below : (c : tie.In-loop2 Inv-loop2 μ-loop2 Inv-loop μ-loop) → c .before .loop2 .i < 32
 unfolding mostMotors
-below c = omega (arith, c .loop2-test .taken, c .before .before .before .before .before .before .before .before .before .before .before .before .before .in-use .ensures)
+below c = omega (arith, c .loop2-test .taken, counted (lines (c .before)) .in-use .ensures)
 
 -- it is accepted
 ready : (c : tie.In-loop2 Inv-loop2 μ-loop2 Inv-loop μ-loop)
-    → oneRefusal (getD (c .before .loop2 .motors) (c .before .loop2 .i) blank) (getD (c .before .before .before .before .before .before .before .before .take-inputs .result .words) (c .before .loop2 .i) 0) (c .before .before .before .before .period .given .0 .0) ≡ 0
+    → oneRefusal (getD (c .before .loop2 .motors) (c .before .loop2 .i) blank) (getD (run (c .before) .take-inputs .result .words) (c .before .loop2 .i) 0) (c .before .before .before .before .period .given .0 .0) ≡ 0
 ready c =
     let e = c .before in
-    let l = e .before .before .before .before .before .before .before .before .before .loop in
-    let n = e .before .before .before .before .before .before .before .before .before .before .before .before .in-use .ensures in
+    let l = lines e .loop in
+    let n = counted (lines e) .in-use .ensures in
     rw (waiting (e .loop2 .inv .1) blank)
-    (each-due (l .inv .3) (e .before .before .before .before .before .before .before .take-inputs .result) (l .inv .0) (l .inv .1) (l .inv .2) (rw n at (e .before .before .before .before .before .before .before .take-inputs .ensures)) _ _ (found e .0) (found e .1) (e .loop2 .i) blank
+    (each-due (l .inv .4) (run e .take-inputs .result) (l .inv .0) (l .inv .1) (l .inv .2) (l .inv .3) (rw n at (e .before .before .before .before .before .before .before .take-inputs .ensures)) _ _ (found e .0) (found e .1) (e .loop2 .i) blank
     (omega (arith, c .loop2-test .taken, n)))
 
 loop-holds : tie.Need-loop-holds Inv-loop2 μ-loop2 Inv-loop μ-loop
 loop-holds c =
-    let e = c .before .before .before .before .before .before in
-    (simp length-map at (e .good .1 .0 .1 .1 .0 .1 .1 .0 .1 .0 .1), simp length-map at (e .good .1 .0 .1 .1 .0 .1 .1 .1 .0 .1 .0 .1), e .pre .1, scans-none (e .pre .0 .begins))
+    let e = c .before .before .before .before .before .before .before in
+    (simp length-map at (e .good .1 .0 .1 .1 .0 .1 .1 .0 .1 .0 .1), simp length-map at (e .good .1 .0 .1 .1 .0 .1 .1 .1 .0 .1 .0 .1), simp length-map at (e .good .1 .0 .1 .1 .0 .1 .1 .1 .1 .0 .1 .0 .1), e .pre .1, scans-none (e .pre .0 .begins))
 
 take-inputs-requires : tie.Need-take-inputs-requires Inv-loop2 μ-loop2 Inv-loop μ-loop
 unfolding mostMotors
-take-inputs-requires c κs = omega (arith, c .before .before .before .before .in-use .ensures)
+take-inputs-requires c κs = omega (arith, counted (c .before) .in-use .ensures)
 
 enum-told : tie.Need-enum-told Inv-loop2 μ-loop2 Inv-loop μ-loop
 enum-told c = search needs
 
 same-length : tie.Need-same-length Inv-loop2 μ-loop2 Inv-loop μ-loop
-same-length c = put-length (c .before .before .before .before .before .before .before .loop .inv .3 .put)
+same-length c = put-length (c .before .before .before .before .before .before .before .loop .inv .4 .put)
 
 returns : tie.Need-returns Inv-loop2 μ-loop2 Inv-loop μ-loop
 returns c =
     let l = c .before .before .before .before .before .before .before .loop in
     let i = c .before .before .before .before .before .take-inputs .result in
-    let run = rw (c .before .before .before .before .before .before .before .before .before .before .in-use .ensures) at (c .before .before .before .before .before .take-inputs .ensures) in
+    let inputs = rw (counted (c .before .before .before .before .before .before .before) .in-use .ensures) at (c .before .before .before .before .before .take-inputs .ensures) in
     rw (c .stand .ensures) (
-      scans-inputs (l .inv .3) i (l .inv .0) run,
-      λ h period next e. untimely (record { motors = l .motors; words = i .words; count = c .before .before .before .before .before .before .before .before .before .before .before .before .before .before .args .s .bench .count; scans = l .scans }) (l .inv .0) (run .size ∙ l .inv .1) period (rw (c .before .enum-told .given .1) at (c .before .before .before .next-scan .ensures) period next e),
+      scans-inputs (l .inv .4) i (l .inv .0) inputs,
+      λ h period next e. untimely (record { motors = l .motors; totals = l .sums; words = i .words; count = start (c .before .before .before .before .before .before .before) .args .s .bench .count; scans = l .scans }) (l .inv .0) (l .inv .1) (inputs .size ∙ l .inv .2) period (rw (c .before .enum-told .given .1) at (c .before .before .before .next-scan .ensures) period next e),
     )
 
 loop2-holds : tie.Need-loop2-holds Inv-loop2 μ-loop2 Inv-loop μ-loop
@@ -88,37 +104,43 @@ loop2-holds c = (omega arith, scanning-none)
 loop2-again : tie.Need-loop2-again Inv-loop2 μ-loop2 Inv-loop μ-loop
 unfolding withStatus
 loop2-again c =
-    let t = c .before .before .before .before .before .before .before .before .before .before .before .before in
+    let t = c .before .before .before .before .before .before .before .before .before .before .before .before .before in
     let e = t .before in
     let j = c .before .before .before .before .before .before in
     let m = getD (e .loop2 .motors) (e .loop2 .i) blank in
-    let word = getD (e .before .before .before .before .before .before .before .take-inputs .result .words) (e .loop2 .i) 0 in
+    let s = getD (e .loop2 .sums) (e .loop2 .i) unused in
+    let word = getD (run e .take-inputs .result .words) (e .loop2 .i) 0 in
     let period = e .before .before .before .period .given .0 .0 in
+    let l = lines e .loop .inv in
+    let read = j .before .before .read .ensures in
+    let here = below t in
     let later : j .if1 .motors ≡ set (e .loop2 .motors) (e .loop2 .i) (step m word period) =
-    ⊎-elim (λ w. w .3 ∙ set-rested (e .loop2 .motors) (e .loop2 .i) m word period (ready t) (sym (j .before .is-resting .ensures) ∙ w .0 .taken) (w .2 .ensures))
-    (λ w. w .4 ∙ set-scanned (e .loop2 .motors) (e .loop2 .i) m word period (ready t) (w .2 .ensures .1)) (j .if1 .came) in
-    (omega (arith, t .loop2-test .taken), scanning-more (e .loop2 .inv .1) blank (omega (arith, below t, e .before .before .before .before .before .before .before .before .before .loop .inv .0)) (omega (arith, below t, e .before .before .before .before .before .before .before .before .before .loop .inv .1, e .before .before .before .before .before .before .before .take-inputs .ensures .size)) later (rw (c .before .before .before .row .ensures) at (c .before .before .put-row .ensures)))
+    ⊎-elim (λ w. w .5 ∙ set-rested (e .loop2 .motors) (e .loop2 .sums) (e .loop2 .i) m s word period (ready t) read (sym (j .before .is-resting .ensures) ∙ w .0 .taken) (w .2 .ensures))
+    (λ w. w .8 ∙ set-scanned (e .loop2 .motors) (e .loop2 .sums) (e .loop2 .i) m s word period (ready t) read (w .2 .ensures .1)) (j .if1 .came) in
+    let sums : j .if1 .sums ≡ set (e .loop2 .sums) (e .loop2 .i) (scanTotals s m word period) =
+    ⊎-elim (λ w. w .6 ∙ set-rested-totals (e .loop2 .motors) (e .loop2 .sums) (e .loop2 .i) m s word period (ready t) read (sym (j .before .is-resting .ensures) ∙ w .0 .taken) (w .4 .ensures))
+    (λ w. w .9 ∙ set-scanned-totals (e .loop2 .motors) (e .loop2 .sums) (e .loop2 .i) m s word period (ready t) read (w .2 .ensures .1) (w .7 .ensures)) (j .if1 .came) in
+    (omega (arith, t .loop2-test .taken), scanning-more (e .loop2 .inv .1) blank unused (omega (arith, here, l .0)) (omega (arith, here, l .1)) (omega (arith, here, l .2, run e .take-inputs .ensures .size)) later sums (rw (c .before .before .before .row .ensures) at (c .before .before .put-row .ensures)))
 
 loop-less : tie.Need-loop-less Inv-loop2 μ-loop2 Inv-loop μ-loop
 loop-less c =
     let s = taken _ _ _ _ (found (c .before .before) .0) in
-    omega (arith, s .further, s .within, c .before .before .before .before .before .before .before .before .before .take-inputs .ensures .onward)
+    omega (arith, s .further, s .within, run (c .before .before) .take-inputs .ensures .onward)
 
 loop-again : tie.Need-loop-again Inv-loop2 μ-loop2 Inv-loop μ-loop
 loop-again c =
     let e = c .before .before in
-    let l = e .before .before .before .before .before .before .before .before .before .loop in
-    let n = e .before .before .before .before .before .before .before .before .before .before .before .before .in-use .ensures in
-    let run = rw n at (e .before .before .before .before .before .before .before .take-inputs .ensures) in
+    let l = lines e .loop in
+    let n = counted (lines e) .in-use .ensures in
     rw (c .next-number2 .ensures, e .before .next-number .ensures)
-    (line-scanned (l .inv .3) (e .before .before .before .before .before .before .before .take-inputs .result) (l .inv .0) (l .inv .1) (l .inv .2) run _ _ (found e .0) (found e .1)
-    (let h : e .loop2 .i ≡ e .before .before .before .before .before .before .before .before .before .before .before .before .in-use .result = omega (arith, e .loop2 .inv .0) in h ∙ n) (rw (e .before .next-number .ensures) at (e .loop2 .inv .1)) (e .before .before .before .before .before .before .before .before .loop-test .taken) (omega (arith, e .before .before .before .before .before .before .before .before .before .before .before .before .before .before .before .before .pre .0 .holds)))
+    (line-scanned (l .inv .4) (run e .take-inputs .result) (l .inv .0) (l .inv .1) (l .inv .2) (l .inv .3) (rw n at (e .before .before .before .before .before .before .before .take-inputs .ensures)) _ _ (found e .0) (found e .1)
+    (let h : e .loop2 .i ≡ counted (lines e) .in-use .result = omega (arith, e .loop2 .inv .0) in h ∙ n) (rw (e .before .next-number .ensures) at (e .loop2 .inv .1)) (e .before .before .before .before .before .before .before .before .loop-test .taken) (omega (arith, start (lines e) .pre .0 .holds)))
 
 same-length-2 : tie.Need-same-length-2 Inv-loop2 μ-loop2 Inv-loop μ-loop
-same-length-2 c = put-length (c .before .before .loop .inv .3 .put)
+same-length-2 c = put-length (c .before .before .loop .inv .4 .put)
 
 returns-2 : tie.Need-returns-2 Inv-loop2 μ-loop2 Inv-loop μ-loop
-returns-2 c = rw (c .stand2 .ensures) (c .before .before .loop .inv .3, λ h. absurd (omega (arith, c .before .loop-test .left)))
+returns-2 c = rw (c .stand2 .ensures) (c .before .before .loop .inv .4, λ h. absurd (omega (arith, c .before .loop-test .left)))
 
 pub scan-lines-spec : {M : Type 1} → statement M
 scan-lines-spec =
@@ -144,24 +166,37 @@ scan-lines-spec =
     (λ c. omega (arith, below c))
     (λ c. omega (arith, below c))
     (λ c κs. search needs)
-    (λ c. omega (arith, below (c .before .before .before .before .before .before)))
-    (λ c. omega (arith, below (c .before .before .before .before .before .before)))
     (λ c κs. search needs)
-    (λ c. omega (arith, below (c .before .before .before .before .before .before .before .before)))
-    (λ c. omega (arith, below (c .before .before .before .before .before .before .before .before)))
-    (λ c. omega (arith, below (c .before .before .before .before .before .before)))
-    (λ c. omega (arith, below (c .before .before .before .before .before .before)))
+    (λ c. omega (arith, below (c .before .before .before .before .before .before .before)))
+    (λ c. omega (arith, below (c .before .before .before .before .before .before .before)))
     (λ c κs. search needs)
     (λ c. omega (arith, below (c .before .before .before .before .before .before .before .before .before)))
     (λ c. omega (arith, below (c .before .before .before .before .before .before .before .before .before)))
-    (λ c. omega (arith, below (c .before .before .before .before .before .before)))
-    (λ c. omega (arith, below (c .before .before .before .before .before .before)))
-    (λ c. omega (arith, below (c .before .before .before .before .before .before .before .before)))
-    (λ c. omega (arith, below (c .before .before .before .before .before .before .before .before)))
+    (λ c. omega (arith, below (c .before .before .before .before .before .before .before .before .before)))
+    (λ c. omega (arith, below (c .before .before .before .before .before .before .before .before .before)))
     (λ c κs. search needs)
+    (λ c. omega (arith, below (c .before .before .before .before .before .before .before .before .before .before .before)))
+    (λ c. omega (arith, below (c .before .before .before .before .before .before .before .before .before .before .before)))
+    (λ c. omega (arith, below (c .before .before .before .before .before .before .before)))
+    (λ c. omega (arith, below (c .before .before .before .before .before .before .before)))
     (λ c κs. search needs)
+    (λ c. omega (arith, below (c .before .before .before .before .before .before .before .before .before .before .before)))
+    (λ c. omega (arith, below (c .before .before .before .before .before .before .before .before .before .before .before)))
     (λ c. omega (arith, below (c .before .before .before .before .before .before .before .before .before .before .before .before)))
-    (λ c. omega (arith, c .before .before .before .before .before .before .before .before .before .before .before .before .loop2-test .taken))
+    (λ c. omega (arith, below (c .before .before .before .before .before .before .before .before .before .before .before .before)))
+    (λ c κs. search needs)
+    (λ c. omega (arith, below (c .before .before .before .before .before .before .before .before .before .before .before .before .before .before)))
+    (λ c. omega (arith, below (c .before .before .before .before .before .before .before .before .before .before .before .before .before .before)))
+    (λ c. omega (arith, below (c .before .before .before .before .before .before .before .before .before .before .before .before .before .before)))
+    (λ c. omega (arith, below (c .before .before .before .before .before .before .before .before .before .before .before .before .before .before)))
+    (λ c. omega (arith, below (c .before .before .before .before .before .before .before)))
+    (λ c. omega (arith, below (c .before .before .before .before .before .before .before)))
+    (λ c. omega (arith, below (c .before .before .before .before .before .before .before .before .before)))
+    (λ c. omega (arith, below (c .before .before .before .before .before .before .before .before .before)))
+    (λ c κs. search needs)
+    (λ c κs. search needs)
+    (λ c. omega (arith, below (c .before .before .before .before .before .before .before .before .before .before .before .before .before)))
+    (λ c. omega (arith, c .before .before .before .before .before .before .before .before .before .before .before .before .before .loop2-test .taken))
     loop2-again
     (λ c κs. search needs)
     loop-less

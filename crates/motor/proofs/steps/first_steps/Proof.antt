@@ -11,10 +11,10 @@ use Rattle.motor.proofs.steps.first_steps.Tie as tie
 returns : tie.Need-returns
 unfolding idle
 returns c =
-    let a = c .before .before .before .before .before .before .before .before .args in
-    let t = and-true _ _ (c .before .before .if1 .taken) in
-    let still = sym (c .before .before .before .is-running .ensures) ∙ not-true _ (t .1) in
-    rw (c .with-status .ensures, c .before .idle-status .ensures, idle-first (a .m) (a .word) (a .period) (t .0) still)
+    let a = c .before .before .before .before .before .before .before .before .before .args in
+    let t = and-true _ _ (c .before .before .before .if1 .taken) in
+    let still = sym (c .before .before .before .before .is-running .ensures) ∙ not-true _ (t .1) in
+    rw (c .with-status .ensures, c .before .idle-status .ensures, c .before .before .read .ensures, idle-first (a .m) (a .word) (a .period) (t .0) still)
 
 add-period-requires : tie.Need-add-period-requires
 unfolding withStatus
@@ -25,4 +25,4 @@ unfolding steps1to5
 returns-2 c = cc
 
 pub first-steps-spec : {M : Type 1} → statement M
-first-steps-spec = tie.close (tie.spec (λ c κs. search needs) (λ c κs. search needs) (λ c κs. search needs) returns (λ c κs. search needs) (λ c κs. search needs) (λ c κs. search needs) (λ c κs. search needs) add-period-requires (λ c κs. search needs) (λ c κs. search needs) (λ c κs. search needs) returns-2)
+first-steps-spec = tie.close (tie.spec (λ c κs. search needs) (λ c κs. search needs) (λ c κs. search needs) (λ c κs. search needs) returns (λ c κs. search needs) (λ c κs. search needs) (λ c κs. search needs) (λ c κs. search needs) add-period-requires (λ c κs. search needs) (λ c κs. search needs) (λ c κs. search needs) returns-2)

@@ -8,4 +8,4 @@ unfolding idleStatus
 returns c = cc
 
 pub idle-status-spec : {M : Type 1} → statement M
-idle-status-spec = tie.close (tie.spec (λ c κs. search needs) (λ c κs. search needs) (λ c κs. search needs) (λ c κs. search needs) returns)
+idle-status-spec = tie.close (tie.spec (λ c κs. search needs) (λ c κs. search needs) (λ c κs. search needs) returns)
