@@ -3,8 +3,8 @@
 
 use crate::record::Record;
 use crate::rules::{
-    acknowledge, begin, change_mode, choose, end_command, enter, form_flags, read_switches, Change, End,
-    Face, Input, Settings, Trace,
+    acknowledge, begin, change_mode, choose, end_command, enter, form_flags, read_switches, Change, Command,
+    End, Face, Input, Reading, Settings, Trace, Way,
 };
 
 /// A command and those that displaced it one after another.
@@ -16,10 +16,25 @@ pub struct Chain {
     pub ended: Option<(usize, End)>,
 }
 
+/// A scan of the history, and what the book has of it.
+#[derive(Clone, Copy, Debug)]
+pub struct Entry {
+    pub word: u32,
+    pub period: u32,
+    pub reading: Reading,
+    pub position: Option<Way>,
+    pub issued: Option<Command>,
+    /// Of the command that was under way as the scan began.
+    pub end: Option<End>,
+}
+
+#[derive(Debug)]
 pub struct Book {
     settings: Settings,
-    /// Word and period of each accepted scan; scan n is entry n - 1.
-    history: Vec<(u32, u32)>,
+    /// Scan n is entry n - 1.
+    pub history: Vec<Entry>,
+    /// The periods of the first n scans added up, for each n from 0.
+    clock: Vec<u64>,
     face: Face,
     /// Number of the scan that issued the command under way.
     issued_in: usize,
@@ -31,26 +46,38 @@ impl Book {
         Book {
             settings: Settings::spell(record.ops_1, record.ops_2, record.wait, record.pulse),
             history: Vec::new(),
+            clock: vec![0],
             face: Face::fresh(),
             issued_in: 0,
             chains: Vec::new(),
         }
     }
 
+    /// The book of a whole history, word and period of each scan.
+    pub fn kept(record: &Record, history: &[(u32, u32)]) -> Book {
+        let mut book = Book::of(record);
+        history.iter().for_each(|(word, period)| book.scan(*word, *period));
+        book
+    }
+
     /// Time of the scans after `first`, up to and with `last`.
     fn time(&self, first: usize, last: usize) -> u64 {
-        self.history[first..last].iter().map(|(_, period)| u64::from(*period)).sum()
+        self.clock[last] - self.clock[first]
     }
 
     fn previous_word(&self) -> u32 {
-        self.history.last().map_or(0, |(word, _)| *word)
+        self.history.last().map_or(0, |entry| entry.word)
+    }
+
+    pub fn under_way(&self) -> Option<Command> {
+        self.face.command
     }
 
     /// Enters one accepted scan.
     pub fn scan(&mut self, word: u32, period: u32) {
         let change = Change { now: Input::spell(word), before: Input::spell(self.previous_word()) };
-        self.history.push((word, period));
-        let this = self.history.len();
+        let this = self.history.len() + 1;
+        self.clock.push(self.clock[this - 1] + u64::from(period));
         let settings = self.settings;
 
         begin(&mut self.face, &change.now);
@@ -62,13 +89,16 @@ impl Book {
         form_flags(&mut self.face, &settings, &change.now, reading);
         change_mode(&mut self.face, &settings, &change);
         let taken = acknowledge(&mut self.face, &settings, &change);
-        if let Some(command) = choose(&self.face, &settings, &change, taken, &mut Trace::default()) {
+        let issued = choose(&self.face, &settings, &change, taken, &mut Trace::default());
+        if let Some(command) = issued {
             if self.face.command.is_none() {
                 self.chains.push(Chain { first: this, ended: None });
             }
             enter(&mut self.face, &settings, command);
             self.issued_in = this;
         }
+        let Face { position, end, .. } = self.face;
+        self.history.push(Entry { word, period, reading, position, issued, end });
     }
 
     /// Whether a record has what the book has.
@@ -85,7 +115,7 @@ impl Book {
     pub fn bound_holds(&self) -> bool {
         self.chains.iter().all(|chain| {
             let later = &self.history[chain.first..];
-            let Some(longest) = later.iter().map(|(_, period)| u64::from(*period)).max() else {
+            let Some(longest) = later.iter().map(|entry| u64::from(entry.period)).max() else {
                 return true;
             };
             let bound = 7 * (u64::from(self.settings.wait) + longest);

@@ -16,6 +16,19 @@ const FORMED: u32 = 1 | 1 << 1 | 1 << 14;
 /// Of these, the ones of an idle motor's reading: 0 both open, 1 Off, 2 On, 3 both closed.
 const FAULT: [u32; 4] = [1 << 1, 0, 0, 1 << 1 | 1 << 14];
 
+/// Running totals; what is under way the record tells. 32 bits will do: the
+/// periods of the longest file add up to less than 100,000,000.
+#[derive(Clone, Copy, Default)]
+struct Totals {
+    issued: u32,
+    confirmed: u32,
+    displaced: u32,
+    overdue: u32,
+    on: u32,
+    best: u32,
+    worst: u32,
+}
+
 #[derive(Clone, Copy, Default)]
 struct Motor {
     ops: u32,
@@ -27,6 +40,7 @@ struct Motor {
     flags: u32,
     sum: u32,
     pulse_sum: u32,
+    totals: Totals,
     mode: u8,
     sure: u8,
     position: u8,
@@ -67,6 +81,9 @@ impl Motor {
             }
             self.sure = reading;
             self.position = reading;
+            if reading == 2 {
+                self.totals.on += period;
+            }
         } else if self.ops2 & 4 == 0 {
             self.position = 0;
         } else if self.ops2 & 8 == 0 {
@@ -83,8 +100,13 @@ impl Motor {
             if reading == goal {
                 self.end = 1;
                 cut = ops & 128 != 0;
+                let totals = &mut self.totals;
+                totals.best = if totals.confirmed == 0 { self.sum } else { totals.best.min(self.sum) };
+                totals.worst = totals.worst.max(self.sum);
+                totals.confirmed += 1;
             } else if self.sum >= self.wait {
                 self.end = 3;
+                self.totals.overdue += 1;
                 self.flags |= 64 << self.command;
                 // Outputs count the other way round than positions.
                 cut = self.output == 3 - goal;
@@ -181,7 +203,9 @@ impl Motor {
                 return;
             }
             self.end = 2;
+            self.totals.displaced += 1;
         }
+        self.totals.issued += 1;
         self.command = chosen;
         self.sum = 0;
         self.flags &= if goal == 2 { !96 } else { !16 };
@@ -382,6 +406,21 @@ impl State {
         }
         Ok(())
     }
+
+    /// The totals, by rising number.
+    fn end<W: Write>(&self, print: &mut Print<W>) {
+        for (place, motor) in self.motors[..self.count].iter().enumerate() {
+            let Totals { issued, confirmed, displaced, overdue, on, best, worst } = motor.totals;
+            let under_way = u32::from(motor.command != 0);
+            print.bytes.push(b'T');
+            let number = place as u32 + 1;
+            for value in [number, issued, confirmed, displaced, overdue, under_way, on, best, worst] {
+                print.bytes.push(b',');
+                print.number(value);
+            }
+            print.bytes.push(b'\n');
+        }
+    }
 }
 
 /// Reads a file and writes its print.
@@ -413,8 +452,9 @@ pub fn run(inlet: impl Read, outlet: impl Write) -> io::Result<()> {
             print.bytes.push(b',');
             print.number(refusal);
             print.bytes.push(b'\n');
-            break;
+            return print.flush();
         }
     }
+    state.end(&mut print);
     print.flush()
 }

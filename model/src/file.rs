@@ -1,13 +1,17 @@
 //! The bench program: a whole file in, the whole print out.
 
+use crate::book::Book;
 use crate::record::{Record, SETTING_LIMITS};
 use crate::rules::{scan_table, Trace};
+use crate::totals::Totals;
 
 /// What the program holds between two lines.
 #[derive(Clone, Debug, Default)]
 pub struct Bench {
     pub motors: Vec<Record>,
     pub words: Vec<u32>,
+    /// Word and period of each accepted scan, for each motor.
+    pub histories: Vec<Vec<(u32, u32)>>,
     pub scans: u32,
 }
 
@@ -92,6 +96,7 @@ impl Bench {
         let [ops_1, ops_2, wait, pulse] = settings;
         self.motors.push(Record::fresh(ops_1, ops_2, wait, pulse));
         self.words.push(0);
+        self.histories.push(Vec::new());
         Ok(Done::Motor)
     }
 
@@ -109,6 +114,9 @@ impl Bench {
     fn scan(&mut self, period: u32) -> Result<Done, u32> {
         let traces = scan_table(&mut self.motors, &self.words, period)?;
         self.scans += 1;
+        for (history, word) in self.histories.iter_mut().zip(&self.words) {
+            history.push((*word, period));
+        }
         let mut print = String::new();
         for (place, m) in self.motors.iter().enumerate() {
             print += &format!(
@@ -125,14 +133,23 @@ impl Bench {
         }
         Ok(Done::Scan(print, traces))
     }
+
+    /// The book of each motor, from its history.
+    pub fn books(&self) -> Vec<Book> {
+        self.motors.iter().zip(&self.histories).map(|(m, history)| Book::kept(m, history)).collect()
+    }
 }
 
 /// Runs a file and tells the watcher of every line: what it did, or why it was
-/// refused (with line 0 for a file that is too long).
-pub fn run_watched(file: &[u8], mut watch: impl FnMut(u32, &Result<Done, u32>)) -> Vec<u8> {
+/// refused (with line 0 for a file that is too long). Hands back the print and,
+/// if nothing was refused, the books that its totals come from.
+pub fn run_watched(
+    file: &[u8],
+    mut watch: impl FnMut(u32, &Result<Done, u32>),
+) -> (Vec<u8>, Option<Vec<Book>>) {
     if file.len() > FILE_LIMIT {
         watch(0, &Err(1));
-        return b"E,0,1\n".to_vec();
+        return (b"E,0,1\n".to_vec(), None);
     }
     let mut bench = Bench::default();
     let mut print = Vec::new();
@@ -149,14 +166,18 @@ pub fn run_watched(file: &[u8], mut watch: impl FnMut(u32, &Result<Done, u32>)) 
             Ok(_) => {}
             Err(refusal) => {
                 print.extend_from_slice(format!("E,{count},{refusal}\n").as_bytes());
-                break;
+                return (print, None);
             }
         }
     }
-    print
+    let books = bench.books();
+    for (place, book) in books.iter().enumerate() {
+        print.extend_from_slice(Totals::of(book).line(place + 1).as_bytes());
+    }
+    (print, Some(books))
 }
 
 /// The exact print of the bench program for any bytes.
 pub fn run(file: &[u8]) -> Vec<u8> {
-    run_watched(file, |_, _| {})
+    run_watched(file, |_, _| {}).0
 }

@@ -9,6 +9,7 @@
 //! * [`rules`]: the ten steps of one scan, in named values instead of bits;
 //! * [`mod@file`]: the bench program, bytes in and bytes out;
 //! * [`book`]: the book of commands, kept from a motor's history alone;
+//! * [`totals`]: the totals of a sitting, counted from the book;
 //! * [`paper`]: the sheets of the paper and a few worked by hand;
 //! * [`story`]: random files, whole and damaged, repeatable from a seed;
 //! * [`tally`]: what happened in the files, by the model's count;
@@ -36,3 +37,4 @@ pub mod rules;
 pub mod shrink;
 pub mod story;
 pub mod tally;
+pub mod totals;

@@ -1,7 +1,9 @@
 //! Counts of what happened in the files.
 
+use crate::book::{Book, Entry};
 use crate::file::Done;
-use crate::rules::{Cause, Command, End, Mode, Reading, Trace};
+use crate::rules::{Cause, Command, End, Mode, Reading, Trace, Way};
+use crate::totals::Totals;
 use std::fmt;
 
 #[derive(Clone, Debug, Default)]
@@ -9,6 +11,8 @@ pub struct Tally {
     pub files: u64,
     /// Without refusal.
     pub whole: u64,
+    /// Refused after the scan of a motor, which has its totals by then.
+    pub cut_short: u64,
     /// Near the greatest length; of these only refusals are counted.
     pub long: u64,
     pub bytes: u64,
@@ -36,7 +40,59 @@ pub struct Tally {
     pub reset: u64,
     pub no_supply: u64,
     pub refused: [u64; 11],
+    /// T lines by what they have to tell, in the order of [`KINDS`].
+    pub told: [u64; KINDS.len()],
 }
+
+/// A T line with what it comes from.
+pub struct Told<'a> {
+    book: &'a Book,
+    totals: Totals,
+    /// Motors in the file.
+    motors: usize,
+}
+
+impl Told<'_> {
+    fn scanned(&self) -> bool {
+        !self.book.history.is_empty()
+    }
+
+    /// A position On that no sure reading stands for.
+    fn pretended_on(&self) -> bool {
+        let pretends = |s: &Entry| s.reading.sure().is_none() && s.position == Some(Way::On);
+        self.book.history.iter().any(pretends)
+    }
+
+    fn end_and_issue(&self, end: End) -> bool {
+        self.book.history.iter().any(|s| s.end == Some(end) && s.issued.is_some())
+    }
+}
+
+type Kind = (&'static str, fn(&Told) -> bool);
+
+pub const KINDS: [Kind; 19] = [
+    ("all", |_| true),
+    ("of several motors", |t| t.motors > 1),
+    ("of more than nine", |t| t.motors > 9),
+    ("never scanned", |t| !t.scanned()),
+    ("no command", |t| t.scanned() && t.totals.issued == 0),
+    ("confirmed", |t| t.totals.confirmed > 0),
+    ("displaced", |t| t.totals.displaced > 0),
+    ("overdue", |t| t.totals.overdue > 0),
+    ("under way", |t| t.totals.under_way > 0),
+    ("all four", |Told { totals: t, .. }| {
+        [t.confirmed, t.displaced, t.overdue, t.under_way].iter().all(|count| *count > 0)
+    }),
+    ("commands, none confirmed", |t| t.totals.issued > 0 && t.totals.confirmed == 0),
+    ("confirmed as another is issued", |t| t.end_and_issue(End::Confirmed)),
+    ("overdue as another is issued", |t| t.end_and_issue(End::Overdue)),
+    ("one time to confirmation", |t| t.totals.best == t.totals.worst && t.totals.confirmed > 0),
+    ("best below worst", |t| t.totals.best < t.totals.worst),
+    ("no On reading", |t| t.scanned() && t.totals.on == 0),
+    ("sure On", |t| t.totals.on > 0),
+    ("pretended On", |t| t.pretended_on()),
+    ("sure and pretended On", |t| t.totals.on > 0 && t.pretended_on()),
+];
 
 /// Readings unsure in one way, by what step 5 meets.
 #[derive(Clone, Copy, Debug, Default)]
@@ -147,12 +203,21 @@ impl Tally {
         }
     }
 
-    /// Counts a file, besides what its lines did.
-    pub fn file(&mut self, bytes: usize, refused: bool, long: bool) {
+    /// Counts a file, besides what its lines did: its print and, if nothing was
+    /// refused, its books, as [`crate::file::run_watched`] hands them back.
+    pub fn file(&mut self, bytes: usize, print: &[u8], books: Option<&[Book]>, long: bool) {
         self.files += 1;
-        self.whole += u64::from(!refused);
+        self.whole += u64::from(books.is_some());
+        self.cut_short += u64::from(books.is_none() && print.starts_with(b"R"));
         self.long += u64::from(long);
         self.bytes += bytes as u64;
+        let books = books.filter(|_| !long).unwrap_or_default();
+        for book in books {
+            let told = Told { book, totals: Totals::of(book), motors: books.len() };
+            for (count, (_, shows)) in self.told.iter_mut().zip(KINDS) {
+                *count += u64::from(shows(&told));
+            }
+        }
     }
 
     pub fn add(&mut self, other: &Tally) {
@@ -167,8 +232,10 @@ impl Tally {
         each(&mut self.acknowledged, &other.acknowledged);
         each(&mut self.dropped, &other.dropped);
         each(&mut self.refused, &other.refused);
+        each(&mut self.told, &other.told);
         self.files += other.files;
         self.whole += other.whole;
+        self.cut_short += other.cut_short;
         self.long += other.long;
         self.bytes += other.bytes;
         self.scans += other.scans;
@@ -202,8 +269,9 @@ impl fmt::Display for Tally {
         writeln!(f, "in the random files, by the model's count:")?;
         writeln!(
             f,
-            "  files {} (without refusal {}), bytes {}; near the greatest length {}, of these only refusals:",
-            self.files, self.whole, self.bytes, self.long
+            "  files {} (without refusal {}, refused after a scan {}), bytes {}; near the greatest length {}, \
+             of these only refusals:",
+            self.files, self.whole, self.cut_short, self.bytes, self.long
         )?;
         writeln!(f, "  scans {}, motor scans {}", self.scans, self.motor_scans)?;
         row(f, "commands issued", &self.issued)?;
@@ -258,6 +326,14 @@ impl fmt::Display for Tally {
         for refusal in [1, 2, 3, 4, 5, 7, 8, 9, 10] {
             write!(f, " {refusal}:{}", self.refused[refusal])?;
         }
-        writeln!(f)
+        writeln!(f)?;
+        for (row, (counts, kinds)) in self.told.chunks(7).zip(KINDS.chunks(7)).enumerate() {
+            write!(f, "  {:<22}", if row == 0 { "T lines" } else { "" })?;
+            for (count, (title, _)) in counts.iter().zip(kinds) {
+                write!(f, " {title}:{count}")?;
+            }
+            writeln!(f)?;
+        }
+        Ok(())
     }
 }

@@ -6,7 +6,7 @@ use motor_model::file::{run, run_watched, Bench, Done};
 use motor_model::record::Record;
 use motor_model::rules::scan_one;
 use motor_model::story::{self, Dice};
-use motor_model::tally::Tally;
+use motor_model::tally::{Tally, KINDS};
 use motor_model::{fast, shrink};
 
 /// After every scan each record has what its book has, and the bound on every
@@ -145,10 +145,12 @@ fn the_files_are_rich() {
     assert_ne!(story::file(5, 12), story::file(6, 12));
     let mut tally = Tally::default();
     for index in 0..5000 {
-        run_watched(&story::file(1, index), |_, result| match story::is_long(index) {
+        let (file, long) = (story::file(1, index), story::is_long(index));
+        let (print, books) = run_watched(&file, |_, result| match long {
             true => tally.refusal(result),
             false => tally.line(result),
         });
+        tally.file(file.len(), &print, books.as_deref(), long);
     }
     for refusal in [1, 2, 3, 4, 5, 7, 8, 9, 10] {
         assert!(tally.refused[refusal] >= 15, "refusal {refusal}: {}", tally.refused[refusal]);
@@ -165,6 +167,11 @@ fn the_files_are_rich() {
         assert!(unsure.idle > 10_000, "{unsure:?}");
         assert!(unsure.idle_local.iter().chain(&unsure.under_way).all(|count| *count > 500), "{unsure:?}");
     }
+    // Totals of every kind, and files that had some but print none.
+    for (count, (title, _)) in tally.told.iter().zip(KINDS) {
+        assert!(*count > 100, "{title}: {count}");
+    }
+    assert!(tally.cut_short > 300, "{}", tally.cut_short);
 }
 
 #[test]

@@ -12,6 +12,11 @@ fn full_table() -> String {
     (1..=32).map(|k| format!("M,{k},0,0,0,0\n")).collect()
 }
 
+/// The totals of so many motors that were given no command and never On.
+fn no_totals(motors: u32) -> String {
+    (1..=motors).map(|k| format!("T,{k},0,0,0,0,0,0,0,0\n")).collect()
+}
+
 /// "a file exceeds 65,536 bytes (printed as `E,0,1` and nothing else)"
 #[test]
 fn refusal_1() {
@@ -22,7 +27,8 @@ fn refusal_1() {
     assert_eq!(file.len(), 65_536);
     let print = run(&file);
     assert!(print.starts_with(b"R,1,1,2,1,0,0,0,0\n"));
-    assert_eq!(print.iter().filter(|b| **b == b'\n').count(), 16_381);
+    assert!(print.ends_with(b"\nR,16381,1,2,1,0,0,0,0\nT,1,0,0,0,0,0,0,0,0\n"));
+    assert_eq!(print.iter().filter(|b| **b == b'\n').count(), 16_382);
     file.push(b'S');
     assert_eq!(run(&file), b"E,0,1\n");
     assert_eq!(run(&vec![b'\n'; 65_537]), b"E,0,1\n");
@@ -41,7 +47,7 @@ fn refusal_2() {
 fn refusal_3() {
     assert_eq!(text("M,1,0,0,0,0\nI,1,131072\n"), "E,2,3\n");
     assert_eq!(text("M,1,0,0,0,0\nI,1,4294967295\n"), "E,2,3\n");
-    assert_eq!(text("M,1,0,0,0,0\nI,1,131071\n"), "");
+    assert_eq!(text("M,1,0,0,0,0\nI,1,131071\n"), no_totals(1));
 }
 
 #[test]
@@ -51,7 +57,7 @@ fn refusal_4() {
     {
         assert_eq!(text(&format!("{line}\n")), "E,1,4\n", "{line}");
     }
-    assert_eq!(text("M,1,65535,31,600000,600000\n"), "");
+    assert_eq!(text("M,1,65535,31,600000,600000\n"), no_totals(1));
 }
 
 #[test]
@@ -137,7 +143,7 @@ fn longest_good_line() {
 #[test]
 fn refusal_7() {
     assert_eq!(text(&(full_table() + "M,33,0,0,0,0\n")), "E,33,7\n");
-    assert_eq!(text(&full_table()), "");
+    assert_eq!(text(&full_table()), no_totals(32));
 }
 
 /// "M after the first accepted scan", also one of an empty table.

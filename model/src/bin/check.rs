@@ -125,16 +125,14 @@ fn check_files(program: &Program, wish: &Wish, total: &mut Tally) -> Option<u64>
                     }
                     let file = story::file(wish.seed, index);
                     let long = story::is_long(index);
-                    let mut refused = false;
-                    let print = run_watched(&file, |_, result| {
-                        refused |= result.is_err();
+                    let (print, books) = run_watched(&file, |_, result| {
                         if long {
                             tally.refusal(result);
                         } else {
                             tally.line(result);
                         }
                     });
-                    tally.file(file.len(), refused, long);
+                    tally.file(file.len(), &print, books.as_deref(), long);
                     if program.run(&file) != Outcome::Print(print) {
                         found.fetch_min(index, Ordering::Relaxed);
                     }
