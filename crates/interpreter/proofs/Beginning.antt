@@ -10,7 +10,7 @@ use Rattle.sheet.specs.Grammar.{requestsOf}
 use Rattle.sheet.specs.declared.Request.{Request}
 use Rattle.sheet.proofs.MoreLines.{before, requests-more, requests-whole}
 use Rattle.interpreter.specs.State.{State, emptyState, nextNumber, refusalFor, changed}
-use Rattle.interpreter.specs.Print.{answerOf, printFrom, nothing, linesPrint}
+use Rattle.interpreter.specs.Print.{answerOf, printFrom, linesPrint}
 use Rattle.interpreter.proofs.PrintLaws.{from-accepted, from-refused}
 
 -- the list `whole` begins with `front`
@@ -20,22 +20,22 @@ pub record Begins (front whole : List ℕ) : Type 0 where
 
 -- ---- what more lines print comes after
 
-from-more : (rs qs : List Request) (t : State) (k : ℕ) → Begins (printFrom nothing rs t k) (printFrom nothing (rs ++ qs) t k)
+from-more : (rs qs : List Request) (t : State) (k : ℕ) → Begins (printFrom [] rs t k) (printFrom [] (rs ++ qs) t k)
 unfolding printFrom
-from-more [] qs t k = record { more = printFrom nothing qs t k; is = refl }
+from-more [] qs t k = record { more = printFrom [] qs t k; is = refl }
 from-more (r ∷ rs) qs t k = go (eqb (refusalFor t r) 0) refl (from-more rs qs (changed t r) (nextNumber k))
   where
-    go : (z : Bool) → eqb (refusalFor t r) 0 ≡ z → Begins (printFrom nothing rs (changed t r) (nextNumber k)) (printFrom nothing (rs ++ qs) (changed t r) (nextNumber k))
-        → Begins (printFrom nothing (r ∷ rs) t k) (printFrom nothing (r ∷ (rs ++ qs)) t k)
+    go : (z : Bool) → eqb (refusalFor t r) 0 ≡ z → Begins (printFrom [] rs (changed t r) (nextNumber k)) (printFrom [] (rs ++ qs) (changed t r) (nextNumber k))
+        → Begins (printFrom [] (r ∷ rs) t k) (printFrom [] (r ∷ (rs ++ qs)) t k)
     go true e b =
         let h = eqb-true _ _ e in
         record {
           more = b .more;
-          is = rw (from-accepted nothing r (rs ++ qs) t k h, from-accepted nothing r rs t k h, b .is) (sym (append-assoc (answerOf (changed t r) r) _ (b .more)));
+          is = rw (from-accepted [] r (rs ++ qs) t k h, from-accepted [] r rs t k h, b .is) (sym (append-assoc (answerOf (changed t r) r) _ (b .more)));
         }
     go false e b =
         let h = eqb-false _ _ e in
-        record { more = []; is = rw (from-refused nothing r (rs ++ qs) t k h, from-refused nothing r rs t k h) (sym (append-nil _)) }
+        record { more = []; is = rw (from-refused [] r (rs ++ qs) t k h, from-refused [] r rs t k h) (sym (append-nil _)) }
 
 -- p is a beginning of a file up to an LF, q what follows it
 pub beginning : (p q : List ℕ) → Begins (linesPrint (p ++ LF ∷ [])) (linesPrint (p ++ LF ∷ q))

@@ -7,11 +7,11 @@ use mathlib.Core.List.{List, [], _∷_, _++_, map, map-append}
 use native.Mathlib.Omega.{arith}
 use lib.Dec.{eqb}
 use lib.ListN.{length}
-use borrow.Author.Tests.{eqb-true, eqb-false, le-ltb}
+use borrow.Author.Tests.{eqb-true, le-ltb}
 use Rattle.words.specs.Word.{if_then_else_}
 use Rattle.rules.specs.declared.Motor.{Motor}
 use Rattle.rules.specs.Steps.{step}
-use Rattle.rules.specs.Refusals.{mostPeriod, periodOk, stepAll, tableAfter}
+use Rattle.rules.specs.Refusals.{mostPeriod, periodOk, stepAll}
 use Rattle.rules.proofs.Tables.{table-accepted, accepted as table-in-limits}
 use Rattle.book.specs.Log.{Log, none, _▸_, count}
 use Rattle.book.specs.History.{recordOf}
@@ -27,52 +27,50 @@ use Rattle.sheet.specs.Grammar.{requestsOf}
 use Rattle.sheet.specs.declared.Request.{Request}
 use Rattle.sheet.specs.declared.Request.the-variants.{Motor as M, Input as I, Scan as S, Refused}
 use Rattle.sheet.proofs.MoreLines.{few-requests}
-use Rattle.report.specs.Print.{totalsRowOf}
-use Rattle.interpreter.specs.State.{State, emptyState, nextNumber, withMotor, withWords, withWord, scanRefusal, withScan, refusalFor, changed, stateAfter, statesAfter}
-use Rattle.interpreter.specs.Histories.{Course, entered, coursesAfter, coursesFrom, coursesOf}
-use Rattle.interpreter.specs.Print.{answerOf, totalsRow, totalsPrint, printFrom, tooLong, printOf}
+use Rattle.interpreter.specs.State.{State, emptyState, withMotor, withWords, withWord, scanRefusal, withScan, refusalFor, changed, stateAfter, statesAfter}
+use Rattle.interpreter.specs.Histories.{History, entered, historiesAfter, historiesFrom, historiesOf}
+use Rattle.interpreter.specs.Print.{historyRow, totalsPrint, tooLong, printOf}
 use Rattle.interpreter.specs.Advance.{underWay, runningPrint, atEnd}
-use Rattle.interpreter.proofs.ActLaws.{accepted}
-use Rattle.interpreter.proofs.PrintLaws.{from-accepted, from-refused, restFrom, rest-from}
+use Rattle.interpreter.proofs.PrintLaws.{restFrom, rest-from}
 
 -- ---- what a bench holds, by the histories of its motors
 
-abbrev recordIn : Course → Motor
-recordIn c = recordOf (c .settings) (c .history)
+abbrev recordIn : History → Motor
+recordIn c = recordOf (c .settings) (c .scans)
 
-abbrev totalsIn : Course → Totals
-totalsIn c = runningOf (c .settings) (c .history)
+abbrev totalsIn : History → Totals
+totalsIn c = runningOf (c .settings) (c .scans)
 
 -- each history has at most n scans, and each of them a period of a scan
-abbrev Short : ℕ → List Course → Type 0
+abbrev Short : ℕ → List History → Type 0
 Short n [] = Unit {0}
-Short n (c ∷ cs) = (count (c .history) ≤ n) × Timely (c .history) × Short n cs
+Short n (c ∷ cs) = (count (c .scans) ≤ n) × Timely (c .scans) × Short n cs
 
-record Kept (cs : List Course) (t : State) (n : ℕ) : Type 0 where
+record Kept (cs : List History) (t : State) (n : ℕ) : Type 0 where
   motors : t .motors ≡ map recordIn cs
   totals : t .totals ≡ map totalsIn cs
   short : Short n cs
 
 -- ---- one scan more
 
-steps-entered : (cs : List Course) (words : List ℕ) (period : ℕ) → stepAll (map recordIn cs) words period ≡ map recordIn (entered cs words period)
+steps-entered : (cs : List History) (words : List ℕ) (period : ℕ) → stepAll (map recordIn cs) words period ≡ map recordIn (entered cs words period)
 unfolding stepAll entered recordOf
 steps-entered [] words period = refl
 steps-entered (c ∷ cs) [] period = refl
 steps-entered (c ∷ cs) (word ∷ words) period = ap (λ (l : List Motor). step (recordIn c) word period ∷ l) (steps-entered cs words period)
 
-totals-entered : (cs : List Course) (words : List ℕ) (period : ℕ)
+totals-entered : (cs : List History) (words : List ℕ) (period : ℕ)
     → allTotals (map totalsIn cs) (map recordIn cs) words period ≡ map totalsIn (entered cs words period)
 unfolding allTotals entered runningOf
 totals-entered [] words period = refl
 totals-entered (c ∷ cs) [] period = refl
 totals-entered (c ∷ cs) (word ∷ words) period = ap (λ (l : List Totals). scanTotals (totalsIn c) (recordIn c) word period ∷ l) (totals-entered cs words period)
 
-later : (n : ℕ) (cs : List Course) → Short n cs → Short (suc n) cs
+later : (n : ℕ) (cs : List History) → Short n cs → Short (suc n) cs
 later n [] h = tt
 later n (c ∷ cs) h = (omega (arith, h .0), h .1, later n cs (h .2))
 
-short-entered : (n : ℕ) (cs : List Course) (words : List ℕ) (period : ℕ) → periodOk period ≡ true → Short n cs → Short (suc n) (entered cs words period)
+short-entered : (n : ℕ) (cs : List History) (words : List ℕ) (period : ℕ) → periodOk period ≡ true → Short n cs → Short (suc n) (entered cs words period)
 unfolding entered count
 short-entered n [] words period e h = tt
 short-entered n (c ∷ cs) [] period e h = later n (c ∷ cs) h
@@ -80,17 +78,17 @@ short-entered n (c ∷ cs) (word ∷ words) period e h = (omega (arith, h .0), (
 
 -- ---- one motor more, with no scan
 
-short-more : (n : ℕ) (cs : List Course) (c : Course) → c .history ≡ none → Short n cs → Short n (cs ++ (c ∷ []))
+short-more : (n : ℕ) (cs : List History) (c : History) → c .scans ≡ none → Short n cs → Short n (cs ++ (c ∷ []))
 unfolding count
 short-more n [] c e h = (rw e (omega arith), rw e tt, tt)
 short-more n (d ∷ cs) c e h = (h .0, h .1, short-more n cs c e (h .2))
 
 -- ---- from the empty bench on
 
-kept-on : {cs : List Course} {t : State} {n : ℕ} (r : Request) → refusalFor t r ≡ 0 → Kept cs t n → Kept (coursesAfter cs t r) (changed t r) (suc n)
-unfolding refusalFor scanRefusal changed withMotor withWord withWords withScan coursesAfter recordOf runningOf
+kept-on : {cs : List History} {t : State} {n : ℕ} (r : Request) → refusalFor t r ≡ 0 → Kept cs t n → Kept (historiesAfter cs t r) (changed t r) (suc n)
+unfolding refusalFor scanRefusal changed withMotor withWord withWords withScan historiesAfter recordOf runningOf
 kept-on {cs} {t} {n} (M number ops1 ops2 w u) h k =
-    let c : Course = record { settings = record { ops1 = ops1; ops2 = ops2; w = w; u = u }; history = none } in
+    let c : History = record { settings = record { ops1 = ops1; ops2 = ops2; w = w; u = u }; scans = none } in
     record {
       motors = rw (k .motors, map-append recordIn cs);
       totals = rw (k .totals, map-append totalsIn cs);
@@ -105,14 +103,14 @@ kept-on {cs} {t} {n} (S period) h k =
     }
 kept-on {cs} {t} {n} Refused h k = record { motors = k .motors; totals = k .totals; short = later n cs (k .short) }
 
-kept-through : (cs : List Course) (t : State) (rs : List Request) {n : ℕ} → Kept cs t n → Kept (coursesFrom cs t rs) (statesAfter t rs) (n + length rs)
-unfolding coursesFrom statesAfter stateAfter if_then_else_
+kept-through : (cs : List History) (t : State) (rs : List Request) {n : ℕ} → Kept cs t n → Kept (historiesFrom cs t rs) (statesAfter t rs) (n + length rs)
+unfolding historiesFrom statesAfter stateAfter if_then_else_
 kept-through cs t [] {n} k = let e : n ≡ n + 0 = omega arith in rw (← e) k
 kept-through cs t (r ∷ rs) {n} k =
     let e : suc n + length rs ≡ n + suc (length rs) = omega arith in
     rw (← e) (kept-through _ (stateAfter t r) rs (one (eqb (refusalFor t r) 0) refl))
   where
-    one : (b : Bool) → eqb (refusalFor t r) 0 ≡ b → Kept (if b then coursesAfter cs t r else cs) (if b then changed t r else t) (suc n)
+    one : (b : Bool) → eqb (refusalFor t r) 0 ≡ b → Kept (if b then historiesAfter cs t r else cs) (if b then changed t r else t) (suc n)
     one true e = kept-on r (eqb-true _ _ e) k
     one false e = record { motors = k .motors; totals = k .totals; short = later n cs (k .short) }
 
@@ -127,46 +125,28 @@ unfolding total count
 timely-total none t = omega arith
 timely-total (h ▸ x) t = omega (arith, timely-total h (t .0), period-limits (x .period) (t .1))
 
-under-way-is : (c : Course) → underWay (recordIn c) ≡ underWayOf (c .settings) (c .history)
+under-way-is : (c : History) → underWay (recordIn c) ≡ underWayOf (c .settings) (c .scans)
 unfolding underWay underWayOf
-under-way-is c = rw (book-held (c .settings) (c .history) .status-is)
+under-way-is c = rw (book-held (c .settings) (c .scans) .status-is)
 
-rows-are : (number n : ℕ) (cs : List Course) → n ≤ 65536 → Short n cs → runningPrint number (map recordIn cs) (map totalsIn cs) ≡ totalsPrint number cs
-unfolding runningPrint totalsPrint
+rows-are : (number n : ℕ) (cs : List History) → n ≤ 65536 → Short n cs → runningPrint number (map recordIn cs) (map totalsIn cs) ≡ totalsPrint number cs
+unfolding runningPrint totalsPrint historyRow
 rows-are number n [] few h = refl
 rows-are number n (c ∷ cs) few h =
     rw (
       under-way-is c,
-      running-exact (c .settings) (c .history) (omega (arith, h .0)) (omega (arith, h .0, timely-total (c .history) (h .1))),
+      running-exact (c .settings) (c .scans) (omega (arith, h .0)) (omega (arith, h .0, timely-total (c .scans) (h .1))),
       rows-are (number + 1) n cs few (h .2),
     )
 
 module _ (rs : List Request) (few : length rs ≤ 65536) where
-  pub end-is : atEnd (statesAfter emptyState rs) ≡ totalsPrint 1 (coursesOf rs)
-  unfolding atEnd coursesOf
-  end-is = let k = kept-through [] emptyState rs none-kept in rw (k .motors, k .totals) (rows-are 1 (0 + length rs) (coursesOf rs) (omega arith) (k .short))
+  pub end-is : atEnd (statesAfter emptyState rs) ≡ totalsPrint 1 (historiesOf rs)
+  unfolding atEnd historiesOf
+  end-is = let k = kept-through [] emptyState rs none-kept in rw (k .motors, k .totals) (rows-are 1 (0 + length rs) (historiesOf rs) (omega arith) (k .short))
 
 -- ---- so they are what a file prints at its end
-
--- two ends that are the same after all requests
-ends-same : (e f : State → List ℕ) (rs : List Request) (t : State) (k : ℕ) → e (statesAfter t rs) ≡ f (statesAfter t rs) → printFrom e rs t k ≡ printFrom f rs t k
-unfolding printFrom statesAfter
-ends-same e f [] t k h = h
-ends-same e f (r ∷ rs) t k h = go (eqb (refusalFor t r) 0) refl (ends-same e f rs (changed t r) (nextNumber k))
-  where
-    go : (b : Bool) → eqb (refusalFor t r) 0 ≡ b
-        → (e (statesAfter (changed t r) rs) ≡ f (statesAfter (changed t r) rs) → printFrom e rs (changed t r) (nextNumber k) ≡ printFrom f rs (changed t r) (nextNumber k))
-        → printFrom e (r ∷ rs) t k ≡ printFrom f (r ∷ rs) t k
-    go true q same =
-        let a = eqb-true _ _ q in
-        from-accepted e r rs t k a
-        ∙ ap (λ (l : List ℕ). answerOf (changed t r) r ++ l) (same (rw (accepted t r a) at h))
-        ∙ sym (from-accepted f r rs t k a)
-    go false q same = let a = eqb-false _ _ q in from-refused e r rs t k a ∙ sym (from-refused f r rs t k a)
 
 pub print-rest : (file : List ℕ) → length file ≤ 65536 → printOf file ≡ restFrom file 0 emptyState 1
 unfolding printOf tooLong if_then_else_
 print-rest file h =
-    let rs = requestsOf file in
-    rw (le-ltb 65536 (length file) h)
-    (ends-same _ atEnd rs emptyState 1 (sym (end-is rs (omega (arith, few-requests file)))) ∙ sym (rest-from file 0 emptyState 1 (omega arith)))
+    rw (le-ltb 65536 (length file) h, ← end-is (requestsOf file) (omega (arith, few-requests file))) (sym (rest-from file 0 emptyState 1 (omega arith)))

@@ -18,10 +18,11 @@ use Rattle.sheet.proofs.RequestLaws.{Step, requests-end, taken, done}
 use Rattle.report.specs.Print.{rowOf, totalsRowOf, refusalOf}
 use Rattle.report.proofs.PrintLaws.{row-length, totals-length}
 use Rattle.totals.specs.declared.Totals.{Totals}
-use Rattle.interpreter.specs.State.{State, emptyState, nextNumber, refusalFor, changed}
+use Rattle.interpreter.specs.State.{State, nextNumber, refusalFor, changed, stateAfter, statesAfter}
 use Rattle.interpreter.specs.Print.{motorRow, rowsOf, answerOf, totalsRow, printFrom, tooLong, printOf}
 use Rattle.interpreter.specs.Advance.{Place, over, underWay, runningPrint, atEnd, Through, mostPut}
-use Rattle.interpreter.specs.Advance.Through.{none, accepted, refused, ended}
+use Rattle.interpreter.specs.Advance.Through.{none, accepted as one-accepted, refused, ended}
+use Rattle.interpreter.proofs.ActLaws.{accepted}
 
 -- ---- the rows of the motors
 
@@ -87,7 +88,7 @@ end-length t h = omega (arith, totals-print-length 1 (t .motors) (t .totals))
 
 -- ---- the first of some requests
 
-module _ (end : State → List ℕ) (r : Request) (rs : List Request) (t : State) (k : ℕ) where
+module _ (end : List ℕ) (r : Request) (rs : List Request) (t : State) (k : ℕ) where
   pub from-accepted : refusalFor t r ≡ 0 → printFrom end (r ∷ rs) t k ≡ answerOf (changed t r) r ++ printFrom end rs (changed t r) (nextNumber k)
   unfolding printFrom if_then_else_
   from-accepted h = rw (eq-eqb (refusalFor t r) 0 h)
@@ -107,7 +108,9 @@ not-accepted t Refused h e = omega arith
 -- ---- what is left to print from a place on
 
 unfoldable pub restFrom : List ℕ → ℕ → State → ℕ → List ℕ
-restFrom file at t k = if ltb (length file) at then [] else printFrom atEnd (requestsOf (drop at file)) t k
+restFrom file at t k =
+    let rs = requestsOf (drop at file) in
+    if ltb (length file) at then [] else printFrom (atEnd (statesAfter t rs)) rs t k
 
 abbrev pub restAt : List ℕ → Place → List ℕ
 restAt file p = restFrom file (p .at) (p .state) (p .line)
@@ -117,27 +120,27 @@ module _ (file : List ℕ) (at : ℕ) (t : State) (k : ℕ) where
   unfolding restFrom if_then_else_
   rest-past h = rw (lt-ltb (length file) at h)
 
-  pub rest-from : at ≤ length file → restFrom file at t k ≡ printFrom atEnd (requestsOf (drop at file)) t k
+  pub rest-from : at ≤ length file → restFrom file at t k ≡ printFrom (atEnd (statesAfter t (requestsOf (drop at file)))) (requestsOf (drop at file)) t k
   unfolding restFrom if_then_else_
   rest-from h = rw (le-ltb (length file) at h)
 
   -- at the end
   pub rest-end : at ≤ length file → length file ≤ at → restFrom file at t k ≡ atEnd t
-  unfolding printFrom
+  unfolding printFrom statesAfter
   rest-end h l = rest-from h ∙ rw (requests-end file at l)
 
   module _ {r : Request} {next : ℕ} (s : Step file at r next) where
-    here : restFrom file at t k ≡ printFrom atEnd (r ∷ s .rest) t k
+    here : restFrom file at t k ≡ printFrom (atEnd (statesAfter t (r ∷ s .rest))) (r ∷ s .rest) t k
     here = rest-from (omega (arith, s .further, s .within)) ∙ rw (s .here)
 
     pub rest-accepted : refusalFor t r ≡ 0 → restFrom file at t k ≡ answerOf (changed t r) r ++ restFrom file next (changed t r) (nextNumber k)
-    unfolding restFrom if_then_else_
+    unfolding restFrom statesAfter if_then_else_
     rest-accepted h =
-        here ∙ from-accepted atEnd r (s .rest) t k h
-        ∙ rw (s .goes-on (not-accepted t r h), le-ltb (length file) next (s .within))
+        here ∙ from-accepted (atEnd (statesAfter t (r ∷ s .rest))) r (s .rest) t k h
+        ∙ rw (accepted t r h, s .goes-on (not-accepted t r h), le-ltb (length file) next (s .within))
 
     pub rest-refused : (refusalFor t r ≡ 0 → ⊥) → restFrom file at t k ≡ refusalOf k (refusalFor t r)
-    rest-refused h = here ∙ from-refused atEnd r (s .rest) t k h
+    rest-refused h = here ∙ from-refused (atEnd (statesAfter t (r ∷ s .rest))) r (s .rest) t k h
 
 -- ---- the lines that were taken, and what is left
 
@@ -148,7 +151,7 @@ nothing-left file p piece = sym (ap (λ (l : List ℕ). piece ++ l) (rest-past f
 module _ {file : List ℕ} {from : Place} where
   pub through-rest : {piece : List ℕ} {p : Place} → Through file from piece p → restAt file from ≡ piece ++ restAt file p
   through-rest none = refl
-  through-rest (accepted {piece} {p} {r} {next} c f h) =
+  through-rest (one-accepted {piece} {p} {r} {next} c f h) =
       through-rest c
       ∙ ap (λ (l : List ℕ). piece ++ l) (rest-accepted file (p .at) (p .state) (p .line) (taken file (p .at) r next f) h)
       ∙ sym (append-assoc piece (answerOf (changed (p .state) r) r) _)
@@ -164,7 +167,7 @@ module _ {file : List ℕ} {from : Place} where
   -- lines, and then more
   pub through-then : {mid to : Place} {front back : List ℕ} → Through file from front mid → Through file mid back to → Through file from (front ++ back) to
   through-then {front = front} c none = rw (append-nil front) c
-  through-then {front = front} c (accepted {piece} {p} {r} d f h) = rw (← append-assoc front piece (answerOf (changed (p .state) r) r)) (accepted (through-then c d) f h)
+  through-then {front = front} c (one-accepted {piece} {p} {r} d f h) = rw (← append-assoc front piece (answerOf (changed (p .state) r) r)) (one-accepted (through-then c d) f h)
   through-then {front = front} c (refused {piece} {p} {r} d f h) = rw (← append-assoc front piece (refusalOf (p .line) (refusalFor (p .state) r))) (refused (through-then c d) f h)
   through-then {front = front} c (ended {piece} {p} d l f) = rw (← append-assoc front piece (atEnd (p .state))) (ended (through-then c d) l f)
 

@@ -58,15 +58,15 @@ lineAfter k [] = k
 lineAfter k (r ∷ rs) = lineAfter (nextNumber k) rs
 
 -- how a print ends: with what is printed at the end of the file, or with the E line of line k and a refusal that is not 0
-pub data Ends (end : State → List ℕ) (t : State) (k : ℕ) : List ℕ → Type 0 where
-  read-out : Ends end t k (end t)
-  by-refusal : (code : ℕ) → (code ≡ 0 → ⊥) → Ends end t k (refusalOf k code)
+pub data Ends (end : List ℕ) (k : ℕ) : List ℕ → Type 0 where
+  read-out : Ends end k end
+  by-refusal : (code : ℕ) → (code ≡ 0 → ⊥) → Ends end k (refusalOf k code)
 
 -- Rows alone, and then at most one E line, which is the last; its number is that of the line after the accepted ones.
-pub record Shaped (end : State → List ℕ) (rs : List Request) (t : State) (k : ℕ) : Type 0 where
+pub record Shaped (end : List ℕ) (rs : List Request) (t : State) (k : ℕ) : Type 0 where
   pub tail : List ℕ
   pub is : printFrom end rs t k ≡ printed (allRows t (accepteds t rs)) ++ tail
-  pub ends : Ends end (statesAfter t (accepteds t rs)) (lineAfter k (accepteds t rs)) tail
+  pub ends : Ends end (lineAfter k (accepteds t rs)) tail
 
 printed-more : (a b : List Row) → printed (a ++ b) ≡ printed a ++ printed b
 unfolding printed
@@ -85,22 +85,20 @@ answer-printed t (I number word) = refl
 answer-printed t (S period) = rows-printed (t .scans) 1 (t .motors)
 answer-printed t Refused = refl
 
-pub shaped : (end : State → List ℕ) (rs : List Request) (t : State) (k : ℕ) → Shaped end rs t k
-unfolding printFrom accepteds allRows printed statesAfter lineAfter if_then_else_
-shaped end [] t k = record { tail = end t; is = refl; ends = read-out }
+pub shaped : (end : List ℕ) (rs : List Request) (t : State) (k : ℕ) → Shaped end rs t k
+unfolding printFrom accepteds allRows printed lineAfter if_then_else_
+shaped end [] t k = record { tail = end; is = refl; ends = read-out }
 shaped end (r ∷ rs) t k = go (eqb (refusalFor t r) 0) refl (shaped end rs (changed t r) (nextNumber k))
   where
     go : (b : Bool) → eqb (refusalFor t r) 0 ≡ b → Shaped end rs (changed t r) (nextNumber k) → Shaped end (r ∷ rs) t k
     go true e s =
-        let qs = accepteds (changed t r) rs in
-        let ends-so : Ends end (statesAfter (stateAfter t r) qs) (lineAfter (nextNumber k) qs) (s .tail) = rw (accepted t r (eqb-true _ _ e)) (s .ends) in
         record {
           tail = s .tail;
           is =
               from-accepted end r rs t k (eqb-true _ _ e)
               ∙ rw (e, s .is, answer-printed (changed t r) r, printed-more (rowsAfter (changed t r) r) (allRows (changed t r) (accepteds (changed t r) rs)))
               (sym (append-assoc (printed (rowsAfter (changed t r) r)) _ (s .tail)));
-          ends = rw e ends-so;
+          ends = rw e (s .ends);
         }
     go false e s =
         record {

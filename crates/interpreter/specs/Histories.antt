@@ -1,5 +1,6 @@
--- The settings and the history of each motor, as the lines of a file make them. All motors are scanned together, so every accepted S line is
--- entered in each history, with the word that the motor holds then.
+-- "A motor's history is its settings and, numbered from 1, the word and period of each accepted scan that took in this motor", as the lines of
+-- a file make them. A scan of a file takes in every motor, each with the word that it holds then. proofs/Followed.antt shows that these are the
+-- histories of demand 3.
 use Prim.Native.Nat.{ℕ}
 use mathlib.Core.List.{List, [], _∷_, _++_}
 use lib.Dec.{eqb}
@@ -11,28 +12,29 @@ use Rattle.sheet.specs.declared.Request.{Request}
 use Rattle.sheet.specs.declared.Request.the-variants.{Motor as M, Input as I, Scan as S, Refused}
 use Rattle.interpreter.specs.State.{State, emptyState, refusalFor, stateAfter}
 
-pub record Course : Type 0 where
+pub record History : Type 0 where
   pub settings : Settings
-  pub history : Log Input
+  pub scans : Log Input
 
-unfoldable pub entered : List Course → List ℕ → ℕ → List Course
+-- a scan is entered in each history, with the motor's word
+unfoldable pub entered : List History → List ℕ → ℕ → List History
 entered [] words period = []
-entered (c ∷ cs) [] period = c ∷ cs
-entered (c ∷ cs) (word ∷ words) period =
-    record { settings = c .settings; history = c .history ▸ record { word = word; period = period } } ∷ entered cs words period
+entered (h ∷ hs) [] period = h ∷ hs
+entered (h ∷ hs) (word ∷ words) period =
+    record { settings = h .settings; scans = h .scans ▸ record { word = word; period = period } } ∷ entered hs words period
 
--- after an accepted line, in the state t: M adds a motor, whose history is empty
-unfoldable pub coursesAfter : List Course → State → Request → List Course
-coursesAfter cs t (M number ops1 ops2 w u) =
-    cs ++ (record { settings = record { ops1 = ops1; ops2 = ops2; w = w; u = u }; history = none } ∷ [])
-coursesAfter cs t (I number word) = cs
-coursesAfter cs t (S period) = entered cs (t .words) period
-coursesAfter cs t Refused = cs
+-- after an accepted line, in the state t: M adds a motor, which was not scanned yet
+unfoldable pub historiesAfter : List History → State → Request → List History
+historiesAfter hs t (M number ops1 ops2 w u) =
+    hs ++ (record { settings = record { ops1 = ops1; ops2 = ops2; w = w; u = u }; scans = none } ∷ [])
+historiesAfter hs t (I number word) = hs
+historiesAfter hs t (S period) = entered hs (t .words) period
+historiesAfter hs t Refused = hs
 
 -- after the requests of some lines; a refused line adds nothing
-unfoldable pub coursesFrom : List Course → State → List Request → List Course
-coursesFrom cs t [] = cs
-coursesFrom cs t (r ∷ rs) = coursesFrom (if eqb (refusalFor t r) 0 then coursesAfter cs t r else cs) (stateAfter t r) rs
+unfoldable pub historiesFrom : List History → State → List Request → List History
+historiesFrom hs t [] = hs
+historiesFrom hs t (r ∷ rs) = historiesFrom (if eqb (refusalFor t r) 0 then historiesAfter hs t r else hs) (stateAfter t r) rs
 
-unfoldable pub coursesOf : List Request → List Course
-coursesOf rs = coursesFrom [] emptyState rs
+unfoldable pub historiesOf : List Request → List History
+historiesOf rs = historiesFrom [] emptyState rs

@@ -15,7 +15,7 @@ use Rattle.report.specs.Print.{rowOf, totalsRowOf, refusalOf}
 use Rattle.totals.specs.declared.Totals.{Totals}
 use Rattle.totals.specs.Totals.{underWayOf, totalsOf}
 use Rattle.interpreter.specs.State.{State, emptyState, nextNumber, refusalFor, changed}
-use Rattle.interpreter.specs.Histories.{Course, coursesOf}
+use Rattle.interpreter.specs.Histories.{History, historiesOf}
 
 -- `R,scan,number,mode,position,command,end,output,flags`
 unfoldable pub motorRow : ℕ → ℕ → Motor → Row
@@ -44,7 +44,7 @@ answerOf t (S period) = rowsOf (t .scans) 1 (t .motors)
 answerOf t Refused = []
 
 -- What is printed once a file has been read to its end without a refusal (change request 2): one line a motor, by rising number, from a number
--- on. `T,number,issued,confirmed,displaced,overdue,under way,on,best,worst`
+-- on, with the totals of its history. `T,number,issued,confirmed,displaced,overdue,under way,on,best,worst`
 unfoldable pub totalsRow : ℕ → ℕ → Totals → TotalsRow
 totalsRow number underway t =
     record {
@@ -59,33 +59,33 @@ totalsRow number underway t =
       worst = t .worst;
     }
 
-unfoldable pub totalsPrint : ℕ → List Course → List ℕ
-totalsPrint number [] = []
-totalsPrint number (c ∷ cs) =
-    totalsRowOf (totalsRow number (underWayOf (c .settings) (c .history)) (totalsOf (c .settings) (c .history))) ++ totalsPrint (number + 1) cs
+unfoldable pub historyRow : ℕ → History → TotalsRow
+historyRow number h = totalsRow number (underWayOf (h .settings) (h .scans)) (totalsOf (h .settings) (h .scans))
 
--- The prints of the lines that make these requests, the first of them line number k, and then of the end. "A refusal prints
--- `E,line,refusal` and the program stops."
-unfoldable pub printFrom : (State → List ℕ) → List Request → State → ℕ → List ℕ
-printFrom end [] t k = end t
+unfoldable pub totalsPrint : ℕ → List History → List ℕ
+totalsPrint number [] = []
+totalsPrint number (h ∷ hs) = totalsRowOf (historyRow number h) ++ totalsPrint (number + 1) hs
+
+-- The prints of the lines that make these requests, the first of them line number k, and then the end. "A refusal prints `E,line,refusal` and
+-- the program stops."
+unfoldable pub printFrom : List ℕ → List Request → State → ℕ → List ℕ
+printFrom end [] t k = end
 printFrom end (r ∷ rs) t k =
     if eqb (refusalFor t r) 0 then answerOf (changed t r) r ++ printFrom end rs (changed t r) (nextNumber k)
     else refusalOf k (refusalFor t r)
 
 -- The prints of a file's lines alone
-abbrev pub nothing : State → List ℕ
-nothing t = []
-
 unfoldable pub linesPrint : List ℕ → List ℕ
-linesPrint file = printFrom nothing (requestsOf file) emptyState 1
+linesPrint file = printFrom [] (requestsOf file) emptyState 1
 
 -- 1: "a file exceeds 65,536 bytes (printed as `E,0,1` and nothing else)"
 unfoldable pub tooLong : ℕ → Bool
 tooLong n = ltb 65536 n
 
--- The whole print. Lines of the file are counted from 1, and so are motors. The end of the file is printed only if no line is refused, so the
--- courses are those of all its lines.
+-- The whole print. Lines of the file are counted from 1, and so are motors. The totals are printed only if no line is refused, so they are
+-- those of the histories that all lines make.
 unfoldable pub printOf : List ℕ → List ℕ
 printOf file =
+    let rs = requestsOf file in
     if tooLong (length file) then refusalOf 0 1
-    else printFrom (λ t. totalsPrint 1 (coursesOf (requestsOf file))) (requestsOf file) emptyState 1
+    else printFrom (totalsPrint 1 (historiesOf rs)) rs emptyState 1
