@@ -36,83 +36,83 @@ use Rattle.interpreter.proofs.PrintLaws.{restFrom, rest-from}
 -- ---- what a bench holds, by the histories of its motors
 
 abbrev recordIn : History → Motor
-recordIn c = recordOf (c .settings) (c .scans)
+recordIn g = recordOf (g .settings) (g .scans)
 
 abbrev totalsIn : History → Totals
-totalsIn c = runningOf (c .settings) (c .scans)
+totalsIn g = runningOf (g .settings) (g .scans)
 
 -- each history has at most n scans, and each of them a period of a scan
 abbrev Short : ℕ → List History → Type 0
 Short n [] = Unit {0}
-Short n (c ∷ cs) = (count (c .scans) ≤ n) × Timely (c .scans) × Short n cs
+Short n (g ∷ hs) = (count (g .scans) ≤ n) × Timely (g .scans) × Short n hs
 
-record Kept (cs : List History) (t : State) (n : ℕ) : Type 0 where
-  motors : t .motors ≡ map recordIn cs
-  totals : t .totals ≡ map totalsIn cs
-  short : Short n cs
+record Kept (hs : List History) (t : State) (n : ℕ) : Type 0 where
+  motors : t .motors ≡ map recordIn hs
+  totals : t .totals ≡ map totalsIn hs
+  short : Short n hs
 
 -- ---- one scan more
 
-steps-entered : (cs : List History) (words : List ℕ) (period : ℕ) → stepAll (map recordIn cs) words period ≡ map recordIn (entered cs words period)
+steps-entered : (hs : List History) (words : List ℕ) (period : ℕ) → stepAll (map recordIn hs) words period ≡ map recordIn (entered hs words period)
 unfolding stepAll entered recordOf
 steps-entered [] words period = refl
-steps-entered (c ∷ cs) [] period = refl
-steps-entered (c ∷ cs) (word ∷ words) period = ap (λ (l : List Motor). step (recordIn c) word period ∷ l) (steps-entered cs words period)
+steps-entered (g ∷ hs) [] period = refl
+steps-entered (g ∷ hs) (word ∷ words) period = ap (λ (l : List Motor). step (recordIn g) word period ∷ l) (steps-entered hs words period)
 
-totals-entered : (cs : List History) (words : List ℕ) (period : ℕ)
-    → allTotals (map totalsIn cs) (map recordIn cs) words period ≡ map totalsIn (entered cs words period)
+totals-entered : (hs : List History) (words : List ℕ) (period : ℕ)
+    → allTotals (map totalsIn hs) (map recordIn hs) words period ≡ map totalsIn (entered hs words period)
 unfolding allTotals entered runningOf
 totals-entered [] words period = refl
-totals-entered (c ∷ cs) [] period = refl
-totals-entered (c ∷ cs) (word ∷ words) period = ap (λ (l : List Totals). scanTotals (totalsIn c) (recordIn c) word period ∷ l) (totals-entered cs words period)
+totals-entered (g ∷ hs) [] period = refl
+totals-entered (g ∷ hs) (word ∷ words) period = ap (λ (l : List Totals). scanTotals (totalsIn g) (recordIn g) word period ∷ l) (totals-entered hs words period)
 
-later : (n : ℕ) (cs : List History) → Short n cs → Short (suc n) cs
+later : (n : ℕ) (hs : List History) → Short n hs → Short (suc n) hs
 later n [] h = tt
-later n (c ∷ cs) h = (omega (arith, h .0), h .1, later n cs (h .2))
+later n (g ∷ hs) h = (omega (arith, h .0), h .1, later n hs (h .2))
 
-short-entered : (n : ℕ) (cs : List History) (words : List ℕ) (period : ℕ) → periodOk period ≡ true → Short n cs → Short (suc n) (entered cs words period)
+short-entered : (n : ℕ) (hs : List History) (words : List ℕ) (period : ℕ) → periodOk period ≡ true → Short n hs → Short (suc n) (entered hs words period)
 unfolding entered count
 short-entered n [] words period e h = tt
-short-entered n (c ∷ cs) [] period e h = later n (c ∷ cs) h
-short-entered n (c ∷ cs) (word ∷ words) period e h = (omega (arith, h .0), (h .1, e), short-entered n cs words period e (h .2))
+short-entered n (g ∷ hs) [] period e h = later n (g ∷ hs) h
+short-entered n (g ∷ hs) (word ∷ words) period e h = (omega (arith, h .0), (h .1, e), short-entered n hs words period e (h .2))
 
 -- ---- one motor more, with no scan
 
-short-more : (n : ℕ) (cs : List History) (c : History) → c .scans ≡ none → Short n cs → Short n (cs ++ (c ∷ []))
+short-more : (n : ℕ) (hs : List History) (g : History) → g .scans ≡ none → Short n hs → Short n (hs ++ (g ∷ []))
 unfolding count
-short-more n [] c e h = (rw e (omega arith), rw e tt, tt)
-short-more n (d ∷ cs) c e h = (h .0, h .1, short-more n cs c e (h .2))
+short-more n [] g e h = (rw e (omega arith), rw e tt, tt)
+short-more n (d ∷ hs) g e h = (h .0, h .1, short-more n hs g e (h .2))
 
 -- ---- from the empty bench on
 
-kept-on : {cs : List History} {t : State} {n : ℕ} (r : Request) → refusalFor t r ≡ 0 → Kept cs t n → Kept (historiesAfter cs t r) (changed t r) (suc n)
+kept-on : {hs : List History} {t : State} {n : ℕ} (r : Request) → refusalFor t r ≡ 0 → Kept hs t n → Kept (historiesAfter hs t r) (changed t r) (suc n)
 unfolding refusalFor scanRefusal changed withMotor withWord withWords withScan historiesAfter recordOf runningOf
-kept-on {cs} {t} {n} (M number ops1 ops2 w u) h k =
-    let c : History = record { settings = record { ops1 = ops1; ops2 = ops2; w = w; u = u }; scans = none } in
+kept-on {hs} {t} {n} (M number ops1 ops2 w u) h k =
+    let g : History = record { settings = record { ops1 = ops1; ops2 = ops2; w = w; u = u }; scans = none } in
     record {
-      motors = rw (k .motors, map-append recordIn cs);
-      totals = rw (k .totals, map-append totalsIn cs);
-      short = later n (cs ++ (c ∷ [])) (short-more n cs c refl (k .short));
+      motors = rw (k .motors, map-append recordIn hs);
+      totals = rw (k .totals, map-append totalsIn hs);
+      short = later n (hs ++ (g ∷ [])) (short-more n hs g refl (k .short));
     }
-kept-on {cs} {t} {n} (I number word) h k = record { motors = k .motors; totals = k .totals; short = later n cs (k .short) }
-kept-on {cs} {t} {n} (S period) h k =
+kept-on {hs} {t} {n} (I number word) h k = record { motors = k .motors; totals = k .totals; short = later n hs (k .short) }
+kept-on {hs} {t} {n} (S period) h k =
     record {
-      motors = table-accepted (t .motors) (t .words) period h ∙ rw (k .motors) (steps-entered cs (t .words) period);
-      totals = rw (k .totals, k .motors) (totals-entered cs (t .words) period);
-      short = short-entered n cs (t .words) period (table-in-limits (t .motors) (t .words) period h .period) (k .short);
+      motors = table-accepted (t .motors) (t .words) period h ∙ rw (k .motors) (steps-entered hs (t .words) period);
+      totals = rw (k .totals, k .motors) (totals-entered hs (t .words) period);
+      short = short-entered n hs (t .words) period (table-in-limits (t .motors) (t .words) period h .period) (k .short);
     }
-kept-on {cs} {t} {n} Refused h k = record { motors = k .motors; totals = k .totals; short = later n cs (k .short) }
+kept-on {hs} {t} {n} Refused h k = record { motors = k .motors; totals = k .totals; short = later n hs (k .short) }
 
-kept-through : (cs : List History) (t : State) (rs : List Request) {n : ℕ} → Kept cs t n → Kept (historiesFrom cs t rs) (statesAfter t rs) (n + length rs)
+kept-through : (hs : List History) (t : State) (rs : List Request) {n : ℕ} → Kept hs t n → Kept (historiesFrom hs t rs) (statesAfter t rs) (n + length rs)
 unfolding historiesFrom statesAfter stateAfter if_then_else_
-kept-through cs t [] {n} k = let e : n ≡ n + 0 = omega arith in rw (← e) k
-kept-through cs t (r ∷ rs) {n} k =
+kept-through hs t [] {n} k = let e : n ≡ n + 0 = omega arith in rw (← e) k
+kept-through hs t (r ∷ rs) {n} k =
     let e : suc n + length rs ≡ n + suc (length rs) = omega arith in
     rw (← e) (kept-through _ (stateAfter t r) rs (one (eqb (refusalFor t r) 0) refl))
   where
-    one : (b : Bool) → eqb (refusalFor t r) 0 ≡ b → Kept (if b then historiesAfter cs t r else cs) (if b then changed t r else t) (suc n)
+    one : (b : Bool) → eqb (refusalFor t r) 0 ≡ b → Kept (if b then historiesAfter hs t r else hs) (if b then changed t r else t) (suc n)
     one true e = kept-on r (eqb-true _ _ e) k
-    one false e = record { motors = k .motors; totals = k .totals; short = later n cs (k .short) }
+    one false e = record { motors = k .motors; totals = k .totals; short = later n hs (k .short) }
 
 none-kept : Kept [] emptyState 0
 unfolding emptyState
@@ -125,18 +125,18 @@ unfolding total count
 timely-total none t = omega arith
 timely-total (h ▸ x) t = omega (arith, timely-total h (t .0), period-limits (x .period) (t .1))
 
-under-way-is : (c : History) → underWay (recordIn c) ≡ underWayOf (c .settings) (c .scans)
+under-way-is : (g : History) → underWay (recordIn g) ≡ underWayOf (g .settings) (g .scans)
 unfolding underWay underWayOf
-under-way-is c = rw (book-held (c .settings) (c .scans) .status-is)
+under-way-is g = rw (book-held (g .settings) (g .scans) .status-is)
 
-rows-are : (number n : ℕ) (cs : List History) → n ≤ 65536 → Short n cs → runningPrint number (map recordIn cs) (map totalsIn cs) ≡ totalsPrint number cs
+rows-are : (number n : ℕ) (hs : List History) → n ≤ 65536 → Short n hs → runningPrint number (map recordIn hs) (map totalsIn hs) ≡ totalsPrint number hs
 unfolding runningPrint totalsPrint historyRow
 rows-are number n [] few h = refl
-rows-are number n (c ∷ cs) few h =
+rows-are number n (g ∷ hs) few h =
     rw (
-      under-way-is c,
-      running-exact (c .settings) (c .scans) (omega (arith, h .0)) (omega (arith, h .0, timely-total (c .scans) (h .1))),
-      rows-are (number + 1) n cs few (h .2),
+      under-way-is g,
+      running-exact (g .settings) (g .scans) (omega (arith, h .0)) (omega (arith, h .0, timely-total (g .scans) (h .1))),
+      rows-are (number + 1) n hs few (h .2),
     )
 
 module _ (rs : List Request) (few : length rs ≤ 65536) where

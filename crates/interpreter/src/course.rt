@@ -53,8 +53,8 @@ fn refuse_scan(file: &[u8], s: Sitting, period: u32, out: &mut [u8], to: usize) 
 {
     let bench = s.bench;
     let line = s.line;
-    let n = put_refusal(out, to, line, scan_refusal(bench, period));
-    stand(bench, file.len() + 1, line, n)
+    let next = put_refusal(out, to, line, scan_refusal(bench, period));
+    stand(bench, file.len() + 1, line, next)
 }
 
 // The line of a request, up to `next`, that is no accepted scan: a refusal is put from `to` on, and nothing else. A refused line

@@ -5,3 +5,4 @@ pub mod Running
 pub mod Lists
 pub mod Choices
 pub mod AtRest
+pub mod Vectors
