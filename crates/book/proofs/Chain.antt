@@ -28,7 +28,7 @@ fates false true d f e = inr (inr (inr (sym e)))
 fates false false true f e = inr (inl (sym e))
 fates false false false f e = inl (sym e)
 
-fate-cases : (s : Settings) (c i : ℕ) (h : Log Input) (y : Input)
+pub fate-cases : (s : Settings) (c i : ℕ) (h : Log Input) (y : Input)
     → (fate s c i h y ≡ no-end) ⊎ (fate s c i h y ≡ end-displaced) ⊎ (fate s c i h y ≡ end-confirmed) ⊎ (fate s c i h y ≡ end-overdue)
 unfolding fate
 fate-cases s c i h y = fates (confirms (reading s (y .word)) c) (isUp s i (h ▸ y)) (displaces (chosenIn s h y) c) _ refl
@@ -40,7 +40,7 @@ not-up true up d f e a b = absurd (a (sym e))
 not-up false true d f e a b = absurd (b (sym e))
 not-up false false d f e a b = refl
 
-in-time : (s : Settings) (c i : ℕ) (h : Log Input) (y : Input) → fate s c i h y ≢ end-confirmed → fate s c i h y ≢ end-overdue
+pub in-time : (s : Settings) (c i : ℕ) (h : Log Input) (y : Input) → fate s c i h y ≢ end-confirmed → fate s c i h y ≢ end-overdue
     → since i (h ▸ y) < s .w
 unfolding fate isUp
 in-time s c i h y a b = leb-false (s .w) (since i (h ▸ y)) (not-up (confirms (reading s (y .word)) c) _ _ _ refl a b)

@@ -138,10 +138,6 @@ module _ (s : Settings) (v : Status) (word : ℕ) (up : Bool) (none : idle v ≡
   unfolding endIn end4 status2 status1 withFlags withPositions withCommand confirmed overdue idle if_then_else_
   end-idle = rw none
 
-issue-lt : (s : Settings) (h : Log Input) (y : Input) → bookOf s h .issue < count (h ▸ y)
-unfolding count
-issue-lt s h y = omega (arith, book-held s h .number)
-
 idle-go : (z t : Bool) (q i n k : ℕ) → k ≡ 0 → (if z then (if t then 0 else k) else q) ≢ 0 → (if z then i else n) ≡ n
 unfolding if_then_else_
 idle-go true true q i n k k0 ne = absurd (ne refl)

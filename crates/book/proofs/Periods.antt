@@ -1,8 +1,8 @@
 -- Every scan in a history was accepted, so its period is one of a scan. Assumes nothing.
-use Prim.Native.Nat.{ℕ, _≤_}
+use Prim.Native.Nat.{ℕ, _*_, _≤_}
+use native.Mathlib.Omega.{arith}
 use mathlib.Core.Path.{_≡_, refl}
-use mathlib.Core.Bool.{Bool, true, false, _&&_, false≢true}
-use lib.Dec.{eqb}
+use mathlib.Core.Bool.{Bool, true, false, false≢true}
 use borrow.Author.Tests.{eqb-true}
 use Rattle.words.specs.Word.{if_then_else_}
 use Rattle.words.proofs.Laws.{both-le}
@@ -12,7 +12,8 @@ use Rattle.rules.specs.Refusals.{mostPeriod, periodOk}
 use Rattle.rules.specs.Scans.{Input}
 use Rattle.rules.proofs.Range.{one-in-limits}
 use Rattle.rules.proofs.Tables.{accepted}
-use Rattle.book.specs.Log.{Log, none, _▸_}
+use Rattle.book.specs.Log.{Log, none, _▸_, count}
+use Rattle.book.specs.Claim.{total}
 use Rattle.book.specs.History.{Entry, table, single, otherTable, otherSingle, resultOf, inputOf, takesIn, counts, recordAfter, history}
 
 -- 1 to 10,000
@@ -23,6 +24,11 @@ period-limits period e = both-le e
 abbrev pub Timely : Log Input → Type 0
 Timely none = Unit {0}
 Timely (h ▸ x) = Timely h × (periodOk (x .period) ≡ true)
+
+pub timely-total : (h : Log Input) → Timely h → total h ≤ mostPeriod * count h
+unfolding total count
+timely-total none t = omega arith
+timely-total (h ▸ x) t = omega (arith, timely-total h (t .0), period-limits (x .period) (t .1))
 
 entered : (m : Motor) (e : Entry) → counts m e ≡ true → periodOk (inputOf e .period) ≡ true
 unfolding counts takesIn resultOf inputOf

@@ -1,7 +1,7 @@
 -- Every fresh motor of a table is followed through any list of scans of it. Assumes nothing.
 use Prim.Native.Nat.{ℕ, zero, suc, _<_}
 use mathlib.Core.Path.{_≡_, refl, sym, ap, _∙_}
-use mathlib.Core.Bool.{Bool, true, false, _&&_}
+use mathlib.Core.Bool.{Bool, true, false}
 use mathlib.Core.List.{List, [], _∷_, _++_}
 use native.Mathlib.Omega.{arith}
 use lib.Dec.{eqb}
@@ -13,10 +13,9 @@ use Rattle.rules.specs.declared.Settings.{Settings}
 use Rattle.rules.specs.declared.Motor.{Motor}
 use Rattle.rules.specs.Record.{fresh}
 use Rattle.rules.specs.Refusals.{oneAfter, tableRefusal, tableAfter}
-use Rattle.rules.specs.Scans.{Input}
 use Rattle.rules.proofs.Tables.{length-after}
 use Rattle.book.specs.Log.{Log, none, _▸_}
-use Rattle.book.specs.History.{Entry, single, otherSingle, resultOf, after, inputOf, takesIn, counts, recordAfter, history}
+use Rattle.book.specs.History.{single, otherSingle, resultOf, after, inputOf, takesIn, counts, recordAfter, history}
 use Rattle.book.specs.Run.{Order, all, one, nobody, scanned, tableRun, entryAt, entriesAt, Followed}
 use Rattle.book.proofs.Record.{taken-is}
 use Rattle.book.proofs.Theorem.{demand3}

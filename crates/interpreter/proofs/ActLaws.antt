@@ -24,7 +24,7 @@ use Rattle.sheet.specs.declared.Request.{Request}
 use Rattle.sheet.specs.declared.Request.the-variants.{Motor as M, Input as I, Scan as S}
 use Rattle.totals.specs.declared.Totals.{Totals}
 use Rattle.totals.specs.Running.{noTotals, totalsAfter, scanTotals, allTotals}
-use Rattle.totals.proofs.Lists.{unused, length-totals, totals-not-yet, one-taken, totals-front}
+use Rattle.totals.proofs.Lists.{length-totals, one-counted, totals-front}
 use Rattle.interpreter.specs.State.{State, nextNumber, motorRefusal, withMotor, isThere, inputRefusal, withWords, withWord, scanRefusal, withScan, refusalFor, changed, stateAfter, viewOf}
 use Rattle.interpreter.specs.declared.Bench.{Bench}
 
@@ -77,22 +77,21 @@ module _ {A : Type 0} (n : ℕ) (l : List A) (is : length l ≡ 32) where
 
 -- ---- the totals, motor by motor: by its record before the scan and its status after it
 
-pub counted-more : (motors after : List Motor) (totals sums : List Totals) (words : List ℕ) (period held i : ℕ) {u : Totals}
+pub counted-more : (motors after : List Motor) (totals counted : List Totals) (words : List ℕ) (period held i : ℕ) {u : Totals}
     → after ≡ stepAll motors (take held words) period → held ≤ length words → i < held → i < length motors → i < length totals
-    → sums ≡ allTotals totals motors (take i words) period
-    → u ≡ totalsAfter (getD sums i unused) (getD motors i blank) (getD after i blank .status) (reading (getD motors i blank .settings) (getD words i 0)) period
-    → set sums i u ≡ allTotals totals motors (take (i + 1) words) period
+    → counted ≡ allTotals totals motors (take i words) period
+    → u ≡ totalsAfter (getD counted i noTotals) (getD motors i blank) (getD after i blank .status) (reading (getD motors i blank .settings) (getD words i 0)) period
+    → set counted i u ≡ allTotals totals motors (take (i + 1) words) period
 unfolding scanTotals
-counted-more motors after totals sums words period held i {u} e h l j k f g =
+counted-more motors after totals counted words period held i {u} e h l j k f g =
     let n : i < length (take held words) = omega (arith, length-take-le held words h) in
     let v : getD after i blank ≡ step (getD motors i blank) (getD words i 0) period =
     ap (λ (r : List Motor). getD r i blank) e ∙ stepAll-at motors (take held words) period i blank j n ∙ ap (λ (w : ℕ). step (getD motors i blank) w period) (getD-take held words i 0 l) in
-    let q : u ≡ scanTotals (getD totals i unused) (getD motors i blank) (getD words i 0) period = g ∙ rw (v, f, totals-not-yet totals motors words period i unused) in
-    rw (q, f, add-one i) (one-taken totals motors words period i unused blank k j (omega arith))
+    ap (set counted i) (g ∙ rw v) ∙ one-counted totals motors words period i noTotals blank k j (omega arith) f
 
 -- ---- each request, on a bench
 
-module _ (b : Bench) (is : length (b .motors) ≡ 32) (ts : length (b .totals) ≡ 32) (js : length (b .words) ≡ 32) where
+module _ (b : Bench) (is : length (b .motors) ≡ 32) (js : length (b .words) ≡ 32) where
   pub held : length (viewOf b .motors) ≡ min (b .count) mostMotors
   held = used (b .count) (b .motors) is
 
@@ -100,12 +99,6 @@ module _ (b : Bench) (is : length (b .motors) ≡ 32) (ts : length (b .totals) �
       → motorRefusal (min (b .count) mostMotors) (b .scans) number s ≡ refusalFor (viewOf b) (M number (s .ops1) (s .ops2) (s .w) (s .u))
   unfolding refusalFor
   add-refusal number s = rw held
-
-  pub add-state : (s : Settings) (number : ℕ) → min (b .count) mostMotors < mostMotors
-      → viewOf (record { motors = set (b .motors) (min (b .count) mostMotors) (fresh s); totals = set (b .totals) (min (b .count) mostMotors) noTotals; words = set (b .words) (min (b .count) mostMotors) 0; count = min (b .count) mostMotors + 1; scans = b .scans })
-      ≡ changed (viewOf b) (M number (s .ops1) (s .ops2) (s .w) (s .u))
-  unfolding changed withMotor
-  add-state s number h = rw (one-more (b .count) (b .motors) is (fresh s) h, one-more (b .count) (b .totals) ts noTotals h, one-more (b .count) (b .words) js 0 h)
 
   pub word-refusal : (number word : ℕ) → inputRefusal (min (b .count) mostMotors) number word ≡ refusalFor (viewOf b) (I number word)
   unfolding refusalFor
@@ -120,7 +113,7 @@ module _ (b : Bench) (is : length (b .motors) ≡ 32) (ts : length (b .totals) �
   unfolding refusalFor scanRefusal partRefusal mostMotors if_then_else_
   scan-refusal period = rw (le-ltb 32 (min (b .count) 32) (omega arith), ← take-used (b .count) (b .motors) is, ← take-used (b .count) (b .words) js)
 
-  -- the motors, and the totals, of a scan of those in use
+  -- the motors after a scan of those in use
   scan-motors : (period : ℕ) → take (b .count) (partAfter (b .motors) (min (b .count) mostMotors) (b .words) period)
       ≡ tableAfter (take (b .count) (b .motors)) (take (b .count) (b .words)) period
   scan-motors period =
@@ -131,27 +124,35 @@ module _ (b : Bench) (is : length (b .motors) ≡ 32) (ts : length (b .totals) �
         ← take-used (b .count) (b .words) js,
       )
 
-  scan-totals : (period : ℕ) → take (b .count) (allTotals (b .totals) (b .motors) (take (min (b .count) mostMotors) (b .words)) period)
-      ≡ allTotals (take (b .count) (b .totals)) (take (b .count) (b .motors)) (take (b .count) (b .words)) period
-  scan-totals period =
-      let n = min (b .count) mostMotors in
-      rw (
-        take-used (b .count) (allTotals (b .totals) (b .motors) (take n (b .words)) period) (length-totals (b .totals) (b .motors) (take n (b .words)) period ∙ ts),
-        totals-front (b .totals) (b .motors) (b .words) period n,
-        take-used (b .count) (b .totals) ts,
-        take-used (b .count) (b .motors) is,
-        take-used (b .count) (b .words) js,
-      )
+  -- and with the array of totals
+  module _ (ts : length (b .totals) ≡ 32) where
+    pub add-state : (s : Settings) (number : ℕ) → min (b .count) mostMotors < mostMotors
+        → viewOf (record { motors = set (b .motors) (min (b .count) mostMotors) (fresh s); totals = set (b .totals) (min (b .count) mostMotors) noTotals; words = set (b .words) (min (b .count) mostMotors) 0; count = min (b .count) mostMotors + 1; scans = b .scans })
+        ≡ changed (viewOf b) (M number (s .ops1) (s .ops2) (s .w) (s .u))
+    unfolding changed withMotor
+    add-state s number h = rw (one-more (b .count) (b .motors) is (fresh s) h, one-more (b .count) (b .totals) ts noTotals h, one-more (b .count) (b .words) js 0 h)
 
-  scan-state : (period : ℕ)
-      → viewOf (record { motors = partAfter (b .motors) (min (b .count) mostMotors) (b .words) period; totals = allTotals (b .totals) (b .motors) (take (min (b .count) mostMotors) (b .words)) period; words = b .words; count = b .count; scans = nextNumber (b .scans) })
-      ≡ changed (viewOf b) (S period)
-  unfolding changed withScan
-  scan-state period = rw (scan-motors period, scan-totals period)
+    scan-totals : (period : ℕ) → take (b .count) (allTotals (b .totals) (b .motors) (take (min (b .count) mostMotors) (b .words)) period)
+        ≡ allTotals (take (b .count) (b .totals)) (take (b .count) (b .motors)) (take (b .count) (b .words)) period
+    scan-totals period =
+        let n = min (b .count) mostMotors in
+        rw (
+          take-used (b .count) (allTotals (b .totals) (b .motors) (take n (b .words)) period) (length-totals (b .totals) (b .motors) (take n (b .words)) period ∙ ts),
+          totals-front (b .totals) (b .motors) (b .words) period n,
+          take-used (b .count) (b .totals) ts,
+          take-used (b .count) (b .motors) is,
+          take-used (b .count) (b .words) js,
+        )
 
-  -- as a scan of the parts answers it
-  pub scanned-state : (period : ℕ) {records : List Motor} {sums : List Totals} → partRefusal (b .motors) (min (b .count) mostMotors) (b .words) period ≡ 0
-      → records ≡ partAfter (b .motors) (min (b .count) mostMotors) (b .words) period
-      → sums ≡ allTotals (b .totals) (b .motors) (take (min (b .count) mostMotors) (b .words)) period
-      → viewOf (record { motors = records; totals = sums; words = b .words; count = b .count; scans = nextNumber (b .scans) }) ≡ stateAfter (viewOf b) (S period)
-  scanned-state period ok f g = rw (f, g) (scan-state period) ∙ sym (accepted (viewOf b) (S period) (sym (scan-refusal period) ∙ ok))
+    scan-state : (period : ℕ)
+        → viewOf (record { motors = partAfter (b .motors) (min (b .count) mostMotors) (b .words) period; totals = allTotals (b .totals) (b .motors) (take (min (b .count) mostMotors) (b .words)) period; words = b .words; count = b .count; scans = nextNumber (b .scans) })
+        ≡ changed (viewOf b) (S period)
+    unfolding changed withScan
+    scan-state period = rw (scan-motors period, scan-totals period)
+
+    -- as a scan of the parts answers it
+    pub scanned-state : (period : ℕ) {records : List Motor} {totals : List Totals} → partRefusal (b .motors) (min (b .count) mostMotors) (b .words) period ≡ 0
+        → records ≡ partAfter (b .motors) (min (b .count) mostMotors) (b .words) period
+        → totals ≡ allTotals (b .totals) (b .motors) (take (min (b .count) mostMotors) (b .words)) period
+        → viewOf (record { motors = records; totals = totals; words = b .words; count = b .count; scans = nextNumber (b .scans) }) ≡ stateAfter (viewOf b) (S period)
+    scanned-state period ok f g = rw (f, g) (scan-state period) ∙ sym (accepted (viewOf b) (S period) (sym (scan-refusal period) ∙ ok))

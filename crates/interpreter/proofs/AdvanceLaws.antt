@@ -159,23 +159,23 @@ module _ {file : List ℕ} {s : Sitting} {out : List ℕ} {to last : ℕ} where
           moved = λ l. omega (arith, r .moved l, run .onward);
         }
 
-    -- a run of I lines and an S line more: `records` are the motors after its scan, and `sums` their totals
-    pub scans-more : (i : Inputs) {period next m : ℕ} {records : List Motor} {sums : List Totals} {later : List ℕ} → length (here .bench .motors) ≡ 32
+    -- a run of I lines and an S line more: `records` are the motors after its scan, and `totals` their totals
+    pub scans-more : (i : Inputs) {period next m : ℕ} {records : List Motor} {totals : List Totals} {later : List ℕ} → length (here .bench .motors) ≡ 32
         → length (here .bench .totals) ≡ 32 → length (here .bench .words) ≡ 32
         → Run file (min (here .bench .count) mostMotors) (here .bench .words) (here .at) (here .line) i → nextAt file (i .at) ≡ Taken (S period) next
         → partRefusal (here .bench .motors) (min (here .bench .count) mostMotors) (i .words) period ≡ 0
         → records ≡ partAfter (here .bench .motors) (min (here .bench .count) mostMotors) (i .words) period
-        → sums ≡ allTotals (here .bench .totals) (here .bench .motors) (take (min (here .bench .count) mostMotors) (i .words)) period → n ≤ last → last + mostPut ≤ length out
+        → totals ≡ allTotals (here .bench .totals) (here .bench .motors) (take (min (here .bench .count) mostMotors) (i .words)) period → n ≤ last → last + mostPut ≤ length out
         → Put after n (rowsOf (nextNumber (here .bench .scans)) 1 (take (here .bench .count) records)) later m
         → Scans file s out to last later
-        (standing (record { motors = records; totals = sums; words = i .words; count = here .bench .count; scans = nextNumber (here .bench .scans) }) next (nextNumber (i .line)) m)
+        (standing (record { motors = records; totals = totals; words = i .words; count = here .bench .count; scans = nextNumber (here .bench .scans) }) next (nextNumber (i .line)) m)
     unfolding answerOf
-    scans-more i {period} {next} {m} {records} {sums} is ts js run found ok f g h room p =
+    scans-more i {period} {next} {m} {records} {totals} is ts js run found ok f g h room p =
         let b = afterRun here i .bench in
         let js₁ = run .size ∙ js in
         scans-line-of (scans-inputs i is run) h room (taken-step file (i .at) (S period) next found .within)
-        (goes-on {s = afterRun here i} found (record { refusal = 0; bench = record { motors = records; totals = sums; words = i .words; count = here .bench .count; scans = nextNumber (here .bench .scans) } })
-        (sym ok ∙ scan-refusal b is ts js₁ period) (scanned-state b is ts js₁ period ok f g) (ap length f ∙ length-part (here .bench .motors) (min (here .bench .count) mostMotors) (i .words) period ∙ is) refl p)
+        (goes-on {s = afterRun here i} found (record { refusal = 0; bench = record { motors = records; totals = totals; words = i .words; count = here .bench .count; scans = nextNumber (here .bench .scans) } })
+        (sym ok ∙ scan-refusal b is js₁ period) (scanned-state b is js₁ ts period ok f g) (ap length f ∙ length-part (here .bench .motors) (min (here .bench .count) mostMotors) (i .words) period ∙ is) refl p)
 
 -- ---- a buffer filled line by line
 

@@ -20,8 +20,8 @@ use Rattle.book.specs.Log.{Log, none, _▸_}
 use Rattle.book.specs.History.{Entry, history}
 use Rattle.book.specs.Run.{Order, all, nobody, scanned, tableRun, entriesAt, Followed}
 use Rattle.book.proofs.Run.{length-run, followed, scan-entered}
-use Rattle.totals.specs.Claim.{Balance}
-use Rattle.totals.proofs.Theorem.{balanced}
+use Rattle.totals.specs.Claim.{TotalsClaim}
+use Rattle.totals.proofs.Theorem.{claimed}
 use Rattle.sheet.specs.declared.Request.{Request}
 use Rattle.sheet.specs.declared.Request.the-variants.{Motor as M, Input as I, Scan as S, Refused}
 use Rattle.interpreter.specs.State.{State, emptyState, nextNumber, withMotor, withWords, withWord, scanRefusal, withScan, refusalFor, changed, stateAfter, statesAfter}
@@ -157,12 +157,13 @@ module _ (rs : List Request) (j : ℕ) (h : j < length (historiesOf rs)) where
       let hs = historiesOf rs in
       followed (map freshIn hs) j (getD hs j unheld .settings) (omega (arith, length-map hs freshIn)) (List·getD-map freshIn hs j unheld) (ordersOf rs)
 
-  -- and speaks of the history that is printed in totals, of which its claim holds too
+  -- and speaks of the history that the lines make
   pub each-history : getD (historiesOf rs) j unheld .scans ≡ history (getD (historiesOf rs) j unheld .settings) (metBy j rs)
   each-history = run-of rs .histories j h
 
-  pub each-balanced : Balance (getD (historiesOf rs) j unheld .settings) (metBy j rs)
-  each-balanced = balanced (getD (historiesOf rs) j unheld .settings) (metBy j rs)
+  -- of which the claim on the totals holds
+  pub each-claimed : TotalsClaim (getD (historiesOf rs) j unheld .settings) (getD (historiesOf rs) j unheld .scans)
+  each-claimed = rw each-history (claimed (getD (historiesOf rs) j unheld .settings) (metBy j rs))
 
 -- ---- so it is of a bench at any place that the lines of a file lead to
 

@@ -1,6 +1,6 @@
 -- What is printed at the end of a file: the running totals that a bench keeps are the totals of its motors' histories, and a file is too short
 -- for any of them to be capped. Assumes nothing.
-use Prim.Native.Nat.{ℕ, suc, _+_, _*_, _≤_}
+use Prim.Native.Nat.{ℕ, suc, _+_, _≤_}
 use mathlib.Core.Path.{_≡_, refl, sym, ap, _∙_}
 use mathlib.Core.Bool.{Bool, true, false}
 use mathlib.Core.List.{List, [], _∷_, _++_, map, map-append}
@@ -11,18 +11,16 @@ use borrow.Author.Tests.{eqb-true, le-ltb}
 use Rattle.words.specs.Word.{if_then_else_}
 use Rattle.rules.specs.declared.Motor.{Motor}
 use Rattle.rules.specs.Steps.{step}
-use Rattle.rules.specs.Refusals.{mostPeriod, periodOk, stepAll}
+use Rattle.rules.specs.Refusals.{periodOk, stepAll}
 use Rattle.rules.proofs.Tables.{table-accepted, accepted as table-in-limits}
-use Rattle.book.specs.Log.{Log, none, _▸_, count}
+use Rattle.book.specs.Log.{none, count}
 use Rattle.book.specs.History.{recordOf}
-use Rattle.book.specs.Claim.{total}
 use Rattle.book.proofs.Book.{book-held}
-use Rattle.book.proofs.Periods.{Timely, period-limits}
-use Rattle.rules.specs.Scans.{Input}
+use Rattle.book.proofs.Periods.{Timely, timely-total}
 use Rattle.totals.specs.declared.Totals.{Totals}
-use Rattle.totals.specs.Totals.{underWayOf}
-use Rattle.totals.specs.Running.{scanTotals, allTotals}
-use Rattle.totals.proofs.Running.{runningOf, running-exact}
+use Rattle.totals.specs.Totals.{underWayIn, underWayOf}
+use Rattle.totals.specs.Running.{scanTotals, allTotals, runningOf}
+use Rattle.totals.proofs.Running.{running-exact}
 use Rattle.sheet.specs.Grammar.{requestsOf}
 use Rattle.sheet.specs.declared.Request.{Request}
 use Rattle.sheet.specs.declared.Request.the-variants.{Motor as M, Input as I, Scan as S, Refused}
@@ -30,7 +28,7 @@ use Rattle.sheet.proofs.MoreLines.{few-requests}
 use Rattle.interpreter.specs.State.{State, emptyState, withMotor, withWords, withWord, scanRefusal, withScan, refusalFor, changed, stateAfter, statesAfter}
 use Rattle.interpreter.specs.Histories.{History, entered, historiesAfter, historiesFrom, historiesOf}
 use Rattle.interpreter.specs.Print.{historyRow, totalsPrint, tooLong, printOf}
-use Rattle.interpreter.specs.Advance.{underWay, runningPrint, atEnd}
+use Rattle.interpreter.specs.Advance.{runningPrint, atEnd}
 use Rattle.interpreter.proofs.PrintLaws.{restFrom, rest-from}
 
 -- ---- what a bench holds, by the histories of its motors
@@ -120,14 +118,9 @@ none-kept = record { motors = refl; totals = refl; short = tt }
 
 -- ---- the T lines
 
-timely-total : (h : Log Input) → Timely h → total h ≤ mostPeriod * count h
-unfolding total count
-timely-total none t = omega arith
-timely-total (h ▸ x) t = omega (arith, timely-total h (t .0), period-limits (x .period) (t .1))
-
-under-way-is : (g : History) → underWay (recordIn g) ≡ underWayOf (g .settings) (g .scans)
-unfolding underWay underWayOf
-under-way-is g = rw (book-held (g .settings) (g .scans) .status-is)
+under-way-is : (g : History) → underWayIn (recordIn g .status) ≡ underWayOf (g .settings) (g .scans)
+unfolding underWayOf
+under-way-is g = ap underWayIn (book-held (g .settings) (g .scans) .status-is)
 
 rows-are : (number n : ℕ) (hs : List History) → n ≤ 65536 → Short n hs → runningPrint number (map recordIn hs) (map totalsIn hs) ≡ totalsPrint number hs
 unfolding runningPrint totalsPrint historyRow

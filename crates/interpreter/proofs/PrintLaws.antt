@@ -18,9 +18,10 @@ use Rattle.sheet.proofs.RequestLaws.{Step, requests-end, taken, done}
 use Rattle.report.specs.Print.{rowOf, totalsRowOf, refusalOf}
 use Rattle.report.proofs.PrintLaws.{row-length, totals-length}
 use Rattle.totals.specs.declared.Totals.{Totals}
-use Rattle.interpreter.specs.State.{State, nextNumber, refusalFor, changed, stateAfter, statesAfter}
+use Rattle.totals.specs.Totals.{underWayIn}
+use Rattle.interpreter.specs.State.{State, nextNumber, refusalFor, changed, statesAfter}
 use Rattle.interpreter.specs.Print.{motorRow, rowsOf, answerOf, totalsRow, printFrom, tooLong, printOf}
-use Rattle.interpreter.specs.Advance.{Place, over, underWay, runningPrint, atEnd, Through, mostPut}
+use Rattle.interpreter.specs.Advance.{Place, over, runningPrint, atEnd, Through, mostPut}
 use Rattle.interpreter.specs.Advance.Through.{none, accepted as one-accepted, refused, ended}
 use Rattle.interpreter.proofs.ActLaws.{accepted}
 
@@ -56,9 +57,9 @@ answer-length t Refused h = omega arith
 -- ---- the T lines of the motors
 
 totals-last : (n : ℕ) (ms : List Motor) (ts : List Totals) (m : Motor) (t : Totals) → length ms ≡ length ts
-    → runningPrint n (ms ++ (m ∷ [])) (ts ++ (t ∷ [])) ≡ runningPrint n ms ts ++ totalsRowOf (totalsRow (n + length ms) (underWay m) t)
+    → runningPrint n (ms ++ (m ∷ [])) (ts ++ (t ∷ [])) ≡ runningPrint n ms ts ++ totalsRowOf (totalsRow (n + length ms) (underWayIn (m .status)) t)
 unfolding runningPrint
-totals-last n [] [] m t e = append-nil _ ∙ ap (λ (k : ℕ). totalsRowOf (totalsRow k (underWay m) t)) (sym (add-zero n))
+totals-last n [] [] m t e = append-nil _ ∙ ap (λ (k : ℕ). totalsRowOf (totalsRow k (underWayIn (m .status)) t)) (sym (add-zero n))
 totals-last n [] (u ∷ ts) m t e = absurd (omega arith)
 totals-last n (x ∷ ms) [] m t e = absurd (omega arith)
 totals-last n (x ∷ ms) (u ∷ ts) m t e =
@@ -67,7 +68,7 @@ totals-last n (x ∷ ms) (u ∷ ts) m t e =
 
 -- one motor more
 pub totals-more : (i : ℕ) (ms : List Motor) (ts : List Totals) (d : Motor) (e : Totals) → i < length ms → i < length ts
-    → runningPrint 1 (take (i + 1) ms) (take (i + 1) ts) ≡ runningPrint 1 (take i ms) (take i ts) ++ totalsRowOf (totalsRow (i + 1) (underWay (getD ms i d)) (getD ts i e))
+    → runningPrint 1 (take (i + 1) ms) (take (i + 1) ts) ≡ runningPrint 1 (take i ms) (take i ts) ++ totalsRowOf (totalsRow (i + 1) (underWayIn (getD ms i d .status)) (getD ts i e))
 totals-more i ms ts d e h k =
     let a = length-take-le i ms (omega arith) in
     let b = length-take-le i ts (omega arith) in
@@ -79,7 +80,7 @@ unfolding runningPrint
 totals-print-length n [] ts = omega arith
 totals-print-length n (m ∷ ms) [] = omega arith
 totals-print-length n (m ∷ ms) (t ∷ ts) =
-    let r = totalsRow n (underWay m) t in
+    let r = totalsRow n (underWayIn (m .status)) t in
     omega (arith, length-append (totalsRowOf r) (runningPrint (n + 1) ms ts), totals-length r, totals-print-length (n + 1) ms ts)
 
 pub end-length : (t : State) → length (t .motors) ≤ 32 → length (atEnd t) ≤ mostPut

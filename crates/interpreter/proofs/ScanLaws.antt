@@ -23,7 +23,7 @@ use Rattle.rules.proofs.Tables.{one-accepted, allOk-at, one-accepts, Accepted, 
 use Rattle.words.proofs.Laws.{and-true}
 use Rattle.totals.specs.declared.Totals.{Totals}
 use Rattle.totals.specs.Running.{onAfter, totalsAfter, scanTotals, allTotals}
-use Rattle.totals.proofs.Lists.{none-taken, length-totals, totals-not-yet, one-taken}
+use Rattle.totals.proofs.Lists.{none-taken, length-totals, one-counted}
 use Rattle.totals.proofs.AtRest.{withOn, rest-totals}
 use types.Run.{OneOf, miss}
 use denote.Enum.Declared.{tagOf}
@@ -103,17 +103,17 @@ module _ (motors : List Motor) (words : List ℕ) (held : ℕ) (few : held ≤ m
 
 -- ---- the first i motors are scanned, counted and printed
 
-pub record Scanning (motors₀ : List Motor) (sums₀ : List Totals) (words : List ℕ) (period scans : ℕ) (out₀ : List ℕ) (to₀ : ℕ) (motors : List Motor) (sums : List Totals) (out : List ℕ) (to i : ℕ) : Type 0 where
+pub record Scanning (motors₀ : List Motor) (totals₀ : List Totals) (words : List ℕ) (period scans : ℕ) (out₀ : List ℕ) (to₀ : ℕ) (motors : List Motor) (totals : List Totals) (out : List ℕ) (to i : ℕ) : Type 0 where
   pub records : motors ≡ stepAll motors₀ (take i words) period
-  pub totals : sums ≡ allTotals sums₀ motors₀ (take i words) period
+  pub counted : totals ≡ allTotals totals₀ motors₀ (take i words) period
   pub put : Put out₀ to₀ (rowsOf scans 1 (take i motors)) out to
 
-module _ {motors₀ : List Motor} {sums₀ : List Totals} {words : List ℕ} {period scans : ℕ} {out₀ : List ℕ} {to₀ : ℕ} where
-  pub scanning-none : Scanning motors₀ sums₀ words period scans out₀ to₀ motors₀ sums₀ out₀ to₀ 0
+module _ {motors₀ : List Motor} {totals₀ : List Totals} {words : List ℕ} {period scans : ℕ} {out₀ : List ℕ} {to₀ : ℕ} where
+  pub scanning-none : Scanning motors₀ totals₀ words period scans out₀ to₀ motors₀ totals₀ out₀ to₀ 0
   unfolding rowsOf
-  scanning-none = record { records = sym (none-stepped motors₀ period); totals = sym (none-taken sums₀ motors₀ period); put = put-none }
+  scanning-none = record { records = sym (none-stepped motors₀ period); counted = sym (none-taken totals₀ motors₀ period); put = put-none }
 
-  module _ {motors : List Motor} {sums : List Totals} {out : List ℕ} {to i : ℕ} (s : Scanning motors₀ sums₀ words period scans out₀ to₀ motors sums out to i) where
+  module _ {motors : List Motor} {totals : List Totals} {out : List ℕ} {to i : ℕ} (s : Scanning motors₀ totals₀ words period scans out₀ to₀ motors totals out to i) where
     -- the next one stands as it was
     pub waiting : (d : Motor) → getD motors i d ≡ getD motors₀ i d
     waiting d = rw (s .records) (not-yet motors₀ words period i d)
@@ -121,19 +121,19 @@ module _ {motors₀ : List Motor} {sums₀ : List Totals} {words : List ℕ} {pe
     same-size : length motors ≡ length motors₀
     same-size = rw (s .records) (length-stepAll motors₀ (take i words) period)
 
-    pub same-sums : length sums ≡ length sums₀
-    same-sums = rw (s .totals) (length-totals sums₀ motors₀ (take i words) period)
+    pub same-totals : length totals ≡ length totals₀
+    same-totals = rw (s .counted) (length-totals totals₀ motors₀ (take i words) period)
 
     -- it is scanned, counted and printed
-    pub scanning-more : (d : Motor) (z : Totals) {later : List Motor} {counted : List Totals} {after : List ℕ} {next : ℕ} → i < length motors₀ → i < length sums₀ → i < length words
+    pub scanning-more : (d : Motor) (z : Totals) {later : List Motor} {more : List Totals} {after : List ℕ} {next : ℕ} → i < length motors₀ → i < length totals₀ → i < length words
         → later ≡ set motors i (step (getD motors i d) (getD words i 0) period)
-        → counted ≡ set sums i (scanTotals (getD sums i z) (getD motors i d) (getD words i 0) period)
+        → more ≡ set totals i (scanTotals (getD totals i z) (getD motors i d) (getD words i 0) period)
         → Put out to (rowOf (motorRow scans (i + 1) (getD later i d))) after next
-        → Scanning motors₀ sums₀ words period scans out₀ to₀ later counted after next (i + 1)
+        → Scanning motors₀ totals₀ words period scans out₀ to₀ later more after next (i + 1)
     scanning-more d z {later} l k m e f p =
         record {
           records = e ∙ rw (waiting d, s .records, add-one i) (one-more motors₀ words period i d l m);
-          totals = f ∙ rw (waiting d, s .totals, totals-not-yet sums₀ motors₀ words period i z, add-one i) (one-taken sums₀ motors₀ words period i z d k l m);
+          counted = f ∙ rw (waiting d) (one-counted totals₀ motors₀ words period i z d k l m (s .counted));
           put =
               let size : i < length later = omega (arith, ap length e, length-set motors i (step (getD motors i d) (getD words i 0) period), same-size) in
               let front : take i later ≡ take i motors = ap (take i) e ∙ take-set-le i motors i _ (omega arith) in
@@ -150,7 +150,7 @@ one-right : periodOk 1 ≡ true
 unfolding periodOk
 one-right = refl
 
-module _ (b : Bench) (is : length (b .motors) ≡ 32) (ts : length (b .totals) ≡ 32) (js : length (b .words) ≡ 32) where
+module _ (b : Bench) (is : length (b .motors) ≡ 32) (js : length (b .words) ≡ 32) where
   accepting : (period : ℕ) → refusalFor (viewOf b) (S period) ≡ 0
       → Accepted (take (min (b .count) mostMotors) (b .motors)) (take (min (b .count) mostMotors) (b .words)) period
   unfolding refusalFor scanRefusal
@@ -159,7 +159,7 @@ module _ (b : Bench) (is : length (b .motors) ≡ 32) (ts : length (b .totals) �
   -- where one of period 1 is, records and words are in range
   pub ready-if : partRefusal (b .motors) (min (b .count) mostMotors) (b .words) 1 ≡ 0
       → (allOk inRange (take (min (b .count) mostMotors) (b .motors)) ≡ true) × (allOk wordOk (take (min (b .count) mostMotors) (b .words)) ≡ true)
-  ready-if h = let a = accepting 1 (sym (scan-refusal b is ts js 1) ∙ h) in (a .records, a .words)
+  ready-if h = let a = accepting 1 (sym (scan-refusal b is js 1) ∙ h) in (a .records, a .words)
 
   -- and where it is not, none is
   pub unready : (period : ℕ) → (partRefusal (b .motors) (min (b .count) mostMotors) (b .words) 1 ≡ 0 → ⊥) → refusalFor (viewOf b) (S period) ≡ 0 → ⊥
@@ -191,9 +191,9 @@ module _ {file : List ℕ} {s : Sitting} {out : List ℕ} {to last : ℕ} {here 
     pub each-due : (k : ℕ) (d : Motor) → k < min (here .bench .count) mostMotors → oneRefusal (getD (here .bench .motors) k d) (getD (i .words) k 0) period ≡ 0
     each-due k d l = due (here .bench .motors) (i .words) held few is js₁ (ready .records) right period time k d l
 
-    module _ {motors : List Motor} {sums : List Totals} {later : List ℕ} {m k : ℕ} (all : k ≡ min (here .bench .count) mostMotors) (scan : Scanning (here .bench .motors) (here .bench .totals) (i .words) period (nextNumber (here .bench .scans)) after n motors sums later m k) where
+    module _ {motors : List Motor} {totals : List Totals} {later : List ℕ} {m k : ℕ} (all : k ≡ min (here .bench .count) mostMotors) (scan : Scanning (here .bench .motors) (here .bench .totals) (i .words) period (nextNumber (here .bench .scans)) after n motors totals later m k) where
       abbrev pub afterScan : Advanced
-      afterScan = standing (record { motors = motors; totals = sums; words = i .words; count = here .bench .count; scans = nextNumber (here .bench .scans) }) next (nextNumber (i .line)) m
+      afterScan = standing (record { motors = motors; totals = totals; words = i .words; count = here .bench .count; scans = nextNumber (here .bench .scans) }) next (nextNumber (i .line)) m
 
       accepted-scan : partRefusal (here .bench .motors) held (i .words) period ≡ 0
       accepted-scan = all-due (here .bench .motors) (i .words) held few is js₁ (ready .records) right period time
@@ -201,17 +201,17 @@ module _ {file : List ℕ} {s : Sitting} {out : List ℕ} {to last : ℕ} {here 
       all-scanned : motors ≡ partAfter (here .bench .motors) held (i .words) period
       all-scanned = scanned scan all accepted-scan
 
-      all-counted : sums ≡ allTotals (here .bench .totals) (here .bench .motors) (take held (i .words)) period
-      all-counted = scan .totals ∙ ap (λ (k : ℕ). allTotals (here .bench .totals) (here .bench .motors) (take k (i .words)) period) all
+      all-counted : totals ≡ allTotals (here .bench .totals) (here .bench .motors) (take held (i .words)) period
+      all-counted = scan .counted ∙ ap (λ (k : ℕ). allTotals (here .bench .totals) (here .bench .motors) (take k (i .words)) period) all
 
       size : length motors ≡ 32
       size = same-size scan ∙ is
 
       pub line-scanned : n ≤ last → last + mostPut ≤ length out
-          → (length motors ≡ 32) × (length sums ≡ 32) × (length (i .words) ≡ 32) × Ready (afterScan .sitting) × Scans file s out to last later afterScan
+          → (length motors ≡ 32) × (length totals ≡ 32) × (length (i .words) ≡ 32) × Ready (afterScan .sitting) × Scans file s out to last later afterScan
       line-scanned h room = (
         size,
-        same-sums scan ∙ ts,
+        same-totals scan ∙ ts,
         js₁,
         record { records = rw all-scanned (range-kept (here .bench .motors) (i .words) held few is js₁ (ready .records) right period time); words = right },
         scans-more r i is ts js run found accepted-scan all-scanned all-counted h room (rw (take-used (here .bench .count) motors size, ← all) (scan .put)),

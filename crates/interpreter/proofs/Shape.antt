@@ -1,4 +1,5 @@
--- The print by its lines: the rows of the accepted scans, and last, if a line is refused, its E line. Assumes nothing.
+-- The print by its lines: the rows of the accepted scans, and last what is printed at the end, or, if a line is refused, its E line. Assumes
+-- nothing.
 use Prim.Native.Nat.{ℕ, suc, _+_, _*_, _<_, _≤_, min}
 use mathlib.Core.Path.{_≡_, refl, sym, ap, subst, _∙_}
 use mathlib.Core.Bool.{Bool, true, false, not}
@@ -62,7 +63,7 @@ pub data Ends (end : List ℕ) (k : ℕ) : List ℕ → Type 0 where
   read-out : Ends end k end
   by-refusal : (code : ℕ) → (code ≡ 0 → ⊥) → Ends end k (refusalOf k code)
 
--- Rows alone, and then at most one E line, which is the last; its number is that of the line after the accepted ones.
+-- Rows alone, and then what is printed at the end, or one E line; its number is that of the line after the accepted ones.
 pub record Shaped (end : List ℕ) (rs : List Request) (t : State) (k : ℕ) : Type 0 where
   pub tail : List ℕ
   pub is : printFrom end rs t k ≡ printed (allRows t (accepteds t rs)) ++ tail

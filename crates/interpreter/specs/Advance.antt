@@ -5,8 +5,8 @@ use mathlib.Core.List.{List, [], _∷_, _++_}
 use lib.ListN.{length}
 use Rattle.words.specs.Word.{if_then_else_}
 use Rattle.rules.specs.declared.Motor.{Motor}
-use Rattle.rules.specs.Record.{idle}
 use Rattle.totals.specs.declared.Totals.{Totals}
+use Rattle.totals.specs.Totals.{underWayIn}
 use Rattle.sheet.specs.Grammar.{nextAt}
 use Rattle.sheet.specs.declared.Request.{Request}
 use Rattle.sheet.specs.declared.Request.the-variants.{Scan as S}
@@ -32,13 +32,10 @@ over file p = record { at = length file + 1; state = p .state; line = p .line }
 
 -- What is printed where a bench comes to the end of a file without a refusal: its running totals, which are those of the histories if it began
 -- empty (proofs/Histories.antt)
-unfoldable pub underWay : Motor → ℕ
-underWay m = if idle (m .status) then 0 else 1
-
 unfoldable pub runningPrint : ℕ → List Motor → List Totals → List ℕ
 runningPrint number [] ts = []
 runningPrint number (m ∷ ms) [] = []
-runningPrint number (m ∷ ms) (t ∷ ts) = totalsRowOf (totalsRow number (underWay m) t) ++ runningPrint (number + 1) ms ts
+runningPrint number (m ∷ ms) (t ∷ ts) = totalsRowOf (totalsRow number (underWayIn (m .status)) t) ++ runningPrint (number + 1) ms ts
 
 unfoldable pub atEnd : State → List ℕ
 atEnd t = runningPrint 1 (t .motors) (t .totals)
@@ -69,7 +66,7 @@ pub record RefusedScan (file : List ℕ) (s : Sitting) (period : ℕ) : Type 0 w
   pub here : nextAt file (s .at) ≡ Taken (S period) next
   pub refused : refusalFor (viewOf (s .bench)) (S period) ≡ 0 → ⊥
 
--- A step to a further place, by a line or the end of the file: what it prints is put, and is no more than one line may print.
+-- A step to a further place, by a line or the end of the file: what it prints is put, and is no more than that may print.
 pub record Advance (file : List ℕ) (s : Sitting) (out : List ℕ) (to : ℕ) (after : List ℕ) (r : Advanced) : Type 0 where
   pub piece : List ℕ
   pub through : Through file (placeOf s) piece (placeOf (r .sitting))
@@ -88,8 +85,8 @@ pub record Begin (file : List ℕ) (out : List ℕ) (to : ℕ) (after : List ℕ
   pub state : viewOf (r .sitting .bench) ≡ emptyState
   pub line : r .sitting .line ≡ 1
 
--- What `fill` does: it takes lines, at least one where the buffer has room for what one line may print. What they print stands at its start,
--- whole.
+-- What `fill` does: it takes lines, or the end of the file, at least one where the buffer has room for what that may print. What they print
+-- stands at its start, whole.
 pub record Fill (file : List ℕ) (s : Sitting) (out after : List ℕ) (r : Advanced) : Type 0 where
   pub piece : List ℕ
   pub through : Through file (placeOf s) piece (placeOf (r .sitting))

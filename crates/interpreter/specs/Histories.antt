@@ -23,7 +23,7 @@ entered (h ∷ hs) [] period = h ∷ hs
 entered (h ∷ hs) (word ∷ words) period =
     record { settings = h .settings; scans = h .scans ▸ record { word = word; period = period } } ∷ entered hs words period
 
--- after an accepted line, in the state t: M adds a motor, which was not scanned yet
+-- after an accepted line, taken in the state t: M adds a motor, which was not scanned yet
 unfoldable pub historiesAfter : List History → State → Request → List History
 historiesAfter hs t (M number ops1 ops2 w u) =
     hs ++ (record { settings = record { ops1 = ops1; ops2 = ops2; w = w; u = u }; scans = none } ∷ [])

@@ -17,7 +17,8 @@ use Rattle.totals.specs.declared.Totals.{Totals}
 use Rattle.totals.specs.Running.{noTotals, allTotals}
 use Rattle.interpreter.specs.declared.Bench.{Bench}
 
--- The motors by rising number, their running totals (change request 2), the word that each holds, and how many scans were accepted
+-- The motors by rising number, their running totals (which nothing in `printOf` comes from: totals/specs/Running.antt), the word that each
+-- holds, and how many scans were accepted
 pub record State : Type 0 where
   pub motors : List Motor
   pub totals : List Totals

@@ -124,7 +124,7 @@ pub fn scan_refusal(b: Bench, period: u32) -> u32
 }
 
 // The totals after a scan of the first motors, with their records before it and after it.
-fn totals_after(
+fn all_totals(
     totals: [Totals; MOST_MOTORS],
     motors: [Motor; MOST_MOTORS],
     after: [Motor; MOST_MOTORS],
@@ -135,17 +135,17 @@ fn totals_after(
     requires { ⌜ (held ≤ mostMotors) × (after ≡ stepAll motors (take held words) period) ⌝ }
     ensures { λ r. ⌜ r ≡ allTotals totals motors (take held words) period ⌝ }
 {
-    let mut sums = totals;
+    let mut totals = totals;
     let mut i: usize = 0;
     while i < held {
         let m = motors[i];
         let s = m.settings;
         let stepped = after[i];
         let v = stepped.status;
-        sums[i] = totals::after(sums[i], m, v, read(s, words[i]), period);
+        totals[i] = totals::after(totals[i], m, v, read(s, words[i]), period);
         i += 1;
     }
-    sums
+    totals
 }
 
 // S: the table's scan.
@@ -159,11 +159,11 @@ fn scan(b: Bench, period: u32) -> Acted
     let refusal = scanned.refusal;
     if refusal == 0 {
         let records = scanned.records;
-        let totals = b.totals;
-        let sums = totals_after(totals, motors, records, words, held, period);
+        let before = b.totals;
+        let totals = all_totals(before, motors, records, words, held, period);
         let mut n = b;
         n.motors = records;
-        n.totals = sums;
+        n.totals = totals;
         n.scans = next_number(b.scans);
         return Acted { refusal, bench: n };
     }

@@ -5,9 +5,10 @@ ghost use lib.ListN.{length};
 ghost use Rattle.sheet.specs.Grammar.{nextAt};
 ghost use Rattle.sheet.specs.declared.Next.the-variants.{Taken};
 ghost use Rattle.report.specs.Put.{Put};
+ghost use Rattle.totals.specs.Totals.{underWayIn};
 ghost use Rattle.interpreter.specs.State.{viewOf};
 ghost use Rattle.interpreter.specs.Print.{totalsRow};
-ghost use Rattle.interpreter.specs.Advance.{underWay, atEnd, NoScan, RefusedScan, Begin, Advance, Fill};
+ghost use Rattle.interpreter.specs.Advance.{atEnd, NoScan, RefusedScan, Begin, Advance, Fill};
 use crate::Advanced;
 use crate::Bench;
 use crate::Sitting;
@@ -84,7 +85,7 @@ fn take_request(
 
 // A motor's T line.
 fn totals_row(number: u32, m: Motor, t: Totals) -> TotalsRow
-    ensures { λ r. ⌜ r ≡ totalsRow number (underWay m) t ⌝ }
+    ensures { λ r. ⌜ r ≡ totalsRow number (underWayIn (m .status)) t ⌝ }
 {
     TotalsRow {
         number,
@@ -115,7 +116,7 @@ fn put_end(b: Bench, out: &mut [u8], to: usize) -> usize
     to
 }
 
-// The next line of a file, that is no accepted scan: what it prints is put from `to` on.
+// The next line of a file, which is no accepted scan, or the file's end: what it prints is put from `to` on.
 fn take_line(file: &[u8], s: Sitting, out: &mut [u8], to: usize) -> Advanced
     requires { ⌜ NoScan (now file) s × (s .at ≤ length (now file)) ⌝ }
     ensures { λ r. ⌜ Advance (now (file .entry)) s (now (out .entry)) to (now (out .exit)) r ⌝ }

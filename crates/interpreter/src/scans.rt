@@ -1,5 +1,5 @@
-// Runs of I and S lines, which touch the words, the motors and the count of scans, each in a local of its own: a bench is dear
-// to copy.
+// Runs of I and S lines, which touch the words, the motors, their totals and the count of scans, each in a local of its own: a
+// bench is dear to copy.
 ghost use mathlib.Core.Path.{_≡_};
 ghost use Rattle.interpreter.specs.Print.{motorRow};
 ghost use Rattle.interpreter.specs.Runs.{FoundScan, Ready, Room, Scans, Over};
@@ -73,7 +73,7 @@ fn scan_lines(file: &[u8], s: Sitting, out: &mut [u8], to: usize, last: usize) -
     let count = bench.count;
     let held = in_use(count);
     let mut motors = bench.motors;
-    let mut sums = bench.totals;
+    let mut totals = bench.totals;
     let mut words = bench.words;
     let mut scans = bench.scans;
     let mut at = s.at;
@@ -87,7 +87,7 @@ fn scan_lines(file: &[u8], s: Sitting, out: &mut [u8], to: usize, last: usize) -
         let NextScan::Period { period, next } = next_scan(file, at) else {
             let b = Bench {
                 motors,
-                totals: sums,
+                totals,
                 words,
                 count,
                 scans,
@@ -108,14 +108,14 @@ fn scan_lines(file: &[u8], s: Sitting, out: &mut [u8], to: usize, last: usize) -
                 let mut rested = motors[i];
                 rested.status = motor::rest(settings, v, word, r);
                 motors[i] = rested;
-                let mut counted = sums[i];
+                let mut counted = totals[i];
                 counted.on = totals::on_after(counted.on, r, period);
-                sums[i] = counted;
+                totals[i] = counted;
             } else {
                 let scanned = motor::scan(motors[i], word, period);
                 let stepped = scanned.motor;
                 let w = stepped.status;
-                sums[i] = totals::after(sums[i], motors[i], w, r, period);
+                totals[i] = totals::after(totals[i], motors[i], w, r, period);
                 motors[i] = stepped;
             }
             let after = motors[i];
@@ -127,7 +127,7 @@ fn scan_lines(file: &[u8], s: Sitting, out: &mut [u8], to: usize, last: usize) -
     }
     let b = Bench {
         motors,
-        totals: sums,
+        totals,
         words,
         count,
         scans,

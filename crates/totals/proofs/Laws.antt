@@ -1,27 +1,26 @@
 -- The laws of the totals, over any history: the balance, the order of best and worst, how large they are. Assumes nothing.
-use Prim.Native.Nat.{ℕ, zero, suc, _+_, _-_, _≤_, _<_, min, max}
-use mathlib.Core.Path.{_≡_, refl, sym, ap, _∙_}
-use mathlib.Core.Logic.{_≢_, _↔_}
-use mathlib.Core.Bool.{Bool, true, false, not, _&&_, _||_}
+use Prim.Native.Nat.{ℕ, suc, _+_, _-_, _≤_, _<_, max}
+use mathlib.Core.Path.{_≡_, refl}
+use mathlib.Core.Logic.{_↔_}
+use mathlib.Core.Bool.{Bool, true, false}
 use mathlib.Core.List.{List, [], _∷_}
 use native.Mathlib.Omega.{arith}
 use native.Mathlib.Decide.{decLt}
-use lib.Dec.{eqb, leb}
 use lib.ListN.{length}
-use borrow.Author.Tests.{eqb-true, eqb-false, eq-eqb, ne-eqb, leb-false}
+use borrow.Author.Tests.{eqb-true}
 use Rattle.words.specs.Word.{if_then_else_}
 use Rattle.words.proofs.Laws.{either}
 use Rattle.rules.specs.declared.Settings.{Settings}
-use Rattle.rules.specs.Record.{no-command, no-end, end-confirmed, idle, freshStatus}
-use Rattle.rules.specs.Steps.{reading, confirms, displaces}
+use Rattle.rules.specs.Record.{end-confirmed, idle, freshStatus}
 use Rattle.rules.specs.Scans.{Input}
 use Rattle.book.specs.Log.{Log, none, _▸_, count}
-use Rattle.book.specs.Book.{since, isUp, bookOf}
-use Rattle.book.specs.Claim.{UnderWay, chosenIn, fate, total, longest}
+use Rattle.book.specs.Book.{since, bookOf}
+use Rattle.book.specs.Claim.{UnderWay, total, longest}
 use Rattle.book.proofs.Book.{book-held, none-since, one-since}
 use Rattle.book.proofs.Ends.{back}
+use Rattle.book.proofs.Chain.{in-time}
 use Rattle.book.proofs.Periods.{Timely, period-limits}
-use Rattle.totals.specs.Totals.{scansWith, lastIssued, lastEnded, issuedOf, confirmedOf, displacedOf, overdueOf, underWayOf, onOf, timesOf, least, greatest, bestOf, worstOf}
+use Rattle.totals.specs.Totals.{scansWith, lastIssued, lastEnded, issuedOf, confirmedOf, displacedOf, overdueOf, underWayIn, underWayOf, onOf, timesOf, least, greatest, bestOf, worstOf}
 use Rattle.totals.specs.Running.{hasIssued}
 use Rattle.totals.proofs.Turns.{turned, issued-seen, Even, scan-even}
 
@@ -31,11 +30,11 @@ one-more : (s : Settings) (h : Log Input) (x : Input) → Even (bookOf s h .stat
     → issuedOf s h ≡ confirmedOf s h + displacedOf s h + overdueOf s h + underWayOf s h
     → issuedOf s h + (if hasIssued (bookOf s h .status .command) (bookOf s (h ▸ x) .status) then 1 else 0)
     ≡ confirmedOf s h + (if lastEnded 1 s (h ▸ x) then 1 else 0) + (displacedOf s h + (if lastEnded 2 s (h ▸ x) then 1 else 0)) + (overdueOf s h + (if lastEnded 3 s (h ▸ x) then 1 else 0)) + underWayOf s (h ▸ x)
-unfolding hasIssued idle lastEnded underWayOf
+unfolding hasIssued idle lastEnded underWayIn underWayOf
 one-more s h x e ih = omega (arith, e .is, ih)
 
 none-yet : (s : Settings) → underWayOf s none ≡ 0
-unfolding underWayOf bookOf freshStatus idle if_then_else_
+unfolding underWayIn underWayOf bookOf freshStatus idle if_then_else_
 none-yet s = refl
 
 pub balance : (s : Settings) (h : Log Input) → issuedOf s h ≡ confirmedOf s h + displacedOf s h + overdueOf s h + underWayOf s h
@@ -52,24 +51,14 @@ unfolding lastEnded
 under-way s h x e =
     record { command = refl; issue = refl; some = λ z. omega (arith, turned s h x .idle-stays z, eqb-true (bookOf s (h ▸ x) .status .end) end-confirmed e) }
 
--- a command that a scan leaves alone has its time not up
-not-up : (s : Settings) (c i : ℕ) (h : Log Input) (x : Input) → fate s c i h x ≡ no-end → since i (h ▸ x) < s .w
-unfolding fate isUp if_then_else_
-not-up s c i h x f = go (confirms (reading s (x .word)) c) (leb (s .w) (since i (h ▸ x))) refl f
-  where
-    go : (y u : Bool) → leb (s .w) (since i (h ▸ x)) ≡ u → _≡_ {A = ℕ} (if y then 1 else if u then 3 else if displaces (chosenIn s h x) c then 2 else 0) 0 → since i (h ▸ x) < s .w
-    go true u e f = absurd (omega arith)
-    go false true e f = absurd (omega arith)
-    go false false e f = leb-false _ _ e
-
--- so the one under way has waited for less than W, or was issued by the last scan
+-- a command under way has waited for less than W, or was issued by the last scan
 waits : (s : Settings) (h : Log Input) (c i : ℕ) → UnderWay s c i h → since i h ≤ s .w - 1
 unfolding since count
 waits s none c i u = omega arith
 waits s (h ▸ x) c i u = go (decLt (count h) i)
   where
     go : Dec (count h < i) → since i (h ▸ x) ≤ s .w - 1
-    go (no l) = omega (arith, not-up s c i h x (back s h x c i (omega arith) u .1))
+    go (no l) = let f = back s h x c i (omega arith) u .1 in omega (arith, in-time s c i h x (omega arith) (omega arith))
     go (yes l) = omega (arith, none-since i (h ▸ x) (omega arith))
 
 -- the time to a confirmation
@@ -105,7 +94,7 @@ unfolding least
 least-head m [] = omega arith
 least-head m (k ∷ ms) = omega arith
 
-pub least-le-greatest : (ms : List ℕ) → least ms ≤ greatest ms
+least-le-greatest : (ms : List ℕ) → least ms ≤ greatest ms
 unfolding greatest least
 least-le-greatest [] = omega arith
 least-le-greatest (m ∷ ms) = omega (arith, least-head m ms)

@@ -1,7 +1,7 @@
 pub mod Turns
 pub mod Laws
-pub mod Theorem
 pub mod Running
+pub mod Theorem
 pub mod Lists
 pub mod Choices
 pub mod AtRest

@@ -8,40 +8,20 @@ use lib.Dec.{eqb}
 use lib.ListN.{length}
 use borrow.Author.Tests.{ne-eqb}
 use Rattle.words.specs.Word.{if_then_else_}
-use Rattle.words.proofs.Laws.{either}
 use Rattle.rules.specs.declared.Settings.{Settings}
 use Rattle.rules.specs.declared.Status.{Status}
-use Rattle.rules.specs.declared.Motor.{Motor}
-use Rattle.rules.specs.Record.{on, end-confirmed, end-displaced, end-overdue, idle}
-use Rattle.rules.specs.Steps.{reading, positionRead, step}
+use Rattle.rules.specs.Record.{end-confirmed, end-displaced, end-overdue, idle}
+use Rattle.rules.specs.Steps.{reading}
 use Rattle.rules.specs.Scans.{Input}
 use Rattle.book.specs.Log.{Log, none, _▸_, count}
 use Rattle.book.specs.History.{recordOf}
 use Rattle.book.specs.Book.{since, bookOf}
-use Rattle.book.specs.Claim.{UnderWay, total}
+use Rattle.book.specs.Claim.{total}
 use Rattle.book.proofs.Book.{book-held}
-use Rattle.totals.specs.declared.Totals.{Totals}
-use Rattle.totals.specs.Totals.{scansWith, lastIssued, lastEnded, issuedOf, confirmedOf, displacedOf, overdueOf, onOf, timesOf, least, greatest, bestOf, worstOf, totalsOf}
-use Rattle.totals.specs.Running.{capped, noTotals, countedIf, hasIssued, onAfter, bestAfter, totalsAfter, scanTotals}
+use Rattle.totals.specs.Totals.{scansWith, lastEnded, issuedOf, confirmedOf, displacedOf, overdueOf, onOf, timesOf, least, greatest, bestOf, worstOf, totalsOf}
+use Rattle.totals.specs.Running.{capped, noTotals, countedIf, hasIssued, onAfter, bestAfter, totalsAfter, scanTotals, runningOf, allCapped}
 use Rattle.totals.proofs.Turns.{issued-seen}
 use Rattle.totals.proofs.Laws.{balance, under-way, time-is, confirmed-times, issued-few, on-few, worst-few, best-worst}
-
--- the running totals of a history, from none on
-unfoldable pub runningOf : Settings → Log Input → Totals
-runningOf s none = noTotals
-runningOf s (h ▸ x) = scanTotals (runningOf s h) (recordOf s h) (x .word) (x .period)
-
-unfoldable pub allCapped : Totals → Totals
-allCapped t =
-    record {
-      issued = capped (t .issued);
-      confirmed = capped (t .confirmed);
-      displaced = capped (t .displaced);
-      overdue = capped (t .overdue);
-      on = capped (t .on);
-      best = capped (t .best);
-      worst = capped (t .worst);
-    }
 
 -- ---- one more of a number that is capped
 
@@ -118,7 +98,7 @@ module _ (s : Settings) (h : Log Input) (x : Input) where
       rw (e, b .settings-is, b .status-is, issued-kept, ended-kept end-confirmed, ended-kept end-displaced, ended-kept end-overdue, on-kept, best-kept, worst-kept) refl
 
 none-is : (s : Settings) → noTotals ≡ allCapped (totalsOf s none)
-unfolding noTotals allCapped totalsOf issuedOf confirmedOf displacedOf overdueOf onOf bestOf worstOf timesOf least greatest scansWith capped
+unfolding allCapped totalsOf issuedOf confirmedOf displacedOf overdueOf onOf bestOf worstOf timesOf least greatest scansWith capped
 none-is s = refl
 
 pub running-is : (s : Settings) (h : Log Input) → runningOf s h ≡ allCapped (totalsOf s h)
@@ -128,9 +108,9 @@ running-is s (h ▸ x) = rw (running-is s h) (kept s h x _ (book-held s (h ▸ x
 
 -- ---- a history so short that no number is capped
 
-least-number : (n : ℕ) → n ≤ 4294967295 → capped n ≡ n
+uncapped : (n : ℕ) → n ≤ 4294967295 → capped n ≡ n
 unfolding capped
-least-number n h = omega arith
+uncapped n h = omega arith
 
 -- the counts of ends are no more than what was issued, and the times no more than the whole
 pub running-exact : (s : Settings) (h : Log Input) → count h ≤ 4294967295 → total h ≤ 4294967295 → runningOf s h ≡ totalsOf s h
@@ -141,11 +121,11 @@ running-exact s h few short =
     let w = worst-few s h in
     running-is s h
     ∙ rw (
-      least-number (issuedOf s h) (omega arith),
-      least-number (confirmedOf s h) (omega arith),
-      least-number (displacedOf s h) (omega arith),
-      least-number (overdueOf s h) (omega arith),
-      least-number (onOf s h) (omega (arith, on-few s h)),
-      least-number (bestOf s h) (omega (arith, best-worst s h)),
-      least-number (worstOf s h) (omega arith),
+      uncapped (issuedOf s h) (omega arith),
+      uncapped (confirmedOf s h) (omega arith),
+      uncapped (displacedOf s h) (omega arith),
+      uncapped (overdueOf s h) (omega arith),
+      uncapped (onOf s h) (omega (arith, on-few s h)),
+      uncapped (bestOf s h) (omega (arith, best-worst s h)),
+      uncapped (worstOf s h) (omega arith),
     ) refl

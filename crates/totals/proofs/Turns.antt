@@ -2,23 +2,21 @@
 -- or stays. Assumes nothing.
 use Prim.Native.Nat.{ℕ, zero, suc, _+_, _≤_}
 use mathlib.Core.Path.{_≡_, refl, sym, _∙_}
-use mathlib.Core.Logic.{_≢_}
-use mathlib.Core.Bool.{Bool, true, false, not, _&&_, _||_}
+use mathlib.Core.Logic.{_≢_, _⊎_, inl, inr}
+use mathlib.Core.Bool.{true, not, _&&_, _||_}
 use native.Mathlib.Omega.{arith}
 use native.Mathlib.Decide.{ℕ-discrete}
 use lib.Dec.{eqb}
-use borrow.Author.Tests.{eqb-true, eqb-false, eq-eqb, ne-eqb}
+use borrow.Author.Tests.{eq-eqb, ne-eqb}
 use Rattle.words.specs.Word.{if_then_else_}
-use Rattle.words.proofs.Laws.{either}
 use Rattle.rules.specs.declared.Settings.{Settings}
-use Rattle.rules.specs.declared.Status.{Status}
-use Rattle.rules.specs.Record.{no-command, no-end, idle}
-use Rattle.rules.specs.Steps.{reading, confirms, displaces}
+use Rattle.rules.specs.Record.{no-command, no-end, end-confirmed, end-displaced, end-overdue, idle}
 use Rattle.rules.specs.Scans.{Input}
 use Rattle.book.specs.Log.{Log, _▸_, count}
-use Rattle.book.specs.Book.{isUp, bookOf}
-use Rattle.book.specs.Claim.{UnderWay, chosenIn, fate}
+use Rattle.book.specs.Book.{bookOf}
+use Rattle.book.specs.Claim.{UnderWay, fate}
 use Rattle.book.proofs.Book.{book-held}
+use Rattle.book.proofs.Chain.{fate-cases}
 use Rattle.book.proofs.Ends.{turn-of, idle-at, idle-end}
 use Rattle.totals.specs.Totals.{lastIssued}
 use Rattle.totals.specs.Running.{hasIssued}
@@ -35,9 +33,13 @@ pub record Turned (c e c′ i′ n : ℕ) : Type 0 where
   pub old : c ≢ no-command → e ≡ no-end → i′ ≢ n
 
 fate-le : (s : Settings) (c i : ℕ) (h : Log Input) (x : Input) → fate s c i h x ≤ 3
-unfolding fate
-fate-le s c i h x =
-    either (λ (n : ℕ). n ≤ 3) _ (omega arith) (either (λ (n : ℕ). n ≤ 3) _ (omega arith) (either (λ (n : ℕ). n ≤ 3) _ (omega arith) (omega arith)))
+fate-le s c i h x = go (fate-cases s c i h x)
+  where
+    go : (fate s c i h x ≡ no-end) ⊎ (fate s c i h x ≡ end-displaced) ⊎ (fate s c i h x ≡ end-confirmed) ⊎ (fate s c i h x ≡ end-overdue) → fate s c i h x ≤ 3
+    go (inl f) = omega (arith, f)
+    go (inr (inl f)) = omega (arith, f)
+    go (inr (inr (inl f))) = omega (arith, f)
+    go (inr (inr (inr f))) = omega (arith, f)
 
 module _ (s : Settings) (h : Log Input) (x : Input) where
   pub turned : Turned (bookOf s h .status .command) (bookOf s (h ▸ x) .status .end) (bookOf s (h ▸ x) .status .command) (bookOf s (h ▸ x) .issue) (count (h ▸ x))

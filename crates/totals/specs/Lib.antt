@@ -1,4 +1,4 @@
 pub mod Totals
-pub mod Claim
 pub mod Running
+pub mod Claim
 pub mod Opened

@@ -2,8 +2,8 @@
 use Rattle.words.specs.Word.{if_then_else_}
 use Rattle.book.specs.Log.{count}
 use Rattle.book.specs.Book.{since, isUp, book1to6, bookScan, bookOf}
-use Rattle.totals.specs.Totals.{scansWith, lastIssued, lastEnded, issuedOf, confirmedOf, displacedOf, overdueOf, underWayOf, onOf, timesOf, least, greatest, bestOf, worstOf, totalsOf}
+use Rattle.totals.specs.Totals.{scansWith, lastIssued, lastEnded, issuedOf, confirmedOf, displacedOf, overdueOf, underWayIn, underWayOf, onOf, timesOf, least, greatest, bestOf, worstOf, totalsOf}
 
 unfoldable pub opened : Type 0
-unfolding if_then_else_ count since isUp book1to6 bookScan bookOf scansWith lastIssued lastEnded issuedOf confirmedOf displacedOf overdueOf underWayOf onOf timesOf least greatest bestOf worstOf totalsOf
+unfolding if_then_else_ count since isUp book1to6 bookScan bookOf scansWith lastIssued lastEnded issuedOf confirmedOf displacedOf overdueOf underWayIn underWayOf onOf timesOf least greatest bestOf worstOf totalsOf
 opened = Unit {0}

@@ -11,19 +11,22 @@ use Rattle.rules.specs.declared.Motor.{Motor}
 use Rattle.rules.specs.declared.Reading.{Reading}
 use Rattle.rules.specs.Record.{on, no-command, no-end, end-confirmed, end-displaced, end-overdue, idle}
 use Rattle.rules.specs.Steps.{reading, positionRead, step}
+use Rattle.rules.specs.Scans.{Input}
+use Rattle.book.specs.Log.{Log, none, _▸_}
+use Rattle.book.specs.History.{recordOf}
 use Rattle.totals.specs.declared.Totals.{Totals}
 
 unfoldable pub capped : ℕ → ℕ
 capped n = min n 4294967295
 
-unfoldable pub noTotals : Totals
+abbrev pub noTotals : Totals
 noTotals = record { issued = 0; confirmed = 0; displaced = 0; overdue = 0; on = 0; best = 0; worst = 0 }
 
 -- one more, if it counts
 unfoldable pub countedIf : ℕ → Bool → ℕ
 countedIf n counts = if counts then capped (n + 1) else n
 
--- A scan with the status v after it issued a command: one is under way then, and none was before, or that one has ended.
+-- A scan with the status v after it issued a command: one is under way then, and none was before, or the one that was has ended.
 unfoldable pub hasIssued : ℕ → Status → Bool
 hasIssued before v = not (idle v) && (eqb before no-command || not (eqb (v .end) no-end))
 
@@ -31,7 +34,7 @@ hasIssued before v = not (idle v) && (eqb before no-command || not (eqb (v .end)
 unfoldable pub onAfter : ℕ → Reading → ℕ → ℕ
 onAfter time r period = if eqb (positionRead r) on then capped (time + period) else time
 
--- the best and the worst after one more confirmation, which took this time; `before` is how many there were
+-- the best time after one more confirmation, which took this time; `before` is how many there were
 unfoldable pub bestAfter : ℕ → ℕ → ℕ → ℕ
 bestAfter before best time = if eqb before 0 then time else min best time
 
@@ -57,3 +60,20 @@ allTotals [] ms words period = []
 allTotals (t ∷ ts) [] words period = t ∷ ts
 allTotals (t ∷ ts) (m ∷ ms) [] period = t ∷ ts
 allTotals (t ∷ ts) (m ∷ ms) (word ∷ words) period = scanTotals t m word period ∷ allTotals ts ms words period
+
+-- The running totals of a history, from no totals on; and totals of which each number is capped
+unfoldable pub runningOf : Settings → Log Input → Totals
+runningOf s none = noTotals
+runningOf s (h ▸ x) = scanTotals (runningOf s h) (recordOf s h) (x .word) (x .period)
+
+unfoldable pub allCapped : Totals → Totals
+allCapped t =
+    record {
+      issued = capped (t .issued);
+      confirmed = capped (t .confirmed);
+      displaced = capped (t .displaced);
+      overdue = capped (t .overdue);
+      on = capped (t .on);
+      best = capped (t .best);
+      worst = capped (t .worst);
+    }

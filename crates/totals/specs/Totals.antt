@@ -6,6 +6,7 @@ use mathlib.Core.List.{List, [], _∷_}
 use lib.Dec.{eqb}
 use Rattle.words.specs.Word.{if_then_else_}
 use Rattle.rules.specs.declared.Settings.{Settings}
+use Rattle.rules.specs.declared.Status.{Status}
 use Rattle.rules.specs.Record.{on, end-confirmed, end-displaced, end-overdue, idle}
 use Rattle.rules.specs.Steps.{reading, positionRead}
 use Rattle.rules.specs.Scans.{Input}
@@ -13,7 +14,7 @@ use Rattle.book.specs.Log.{Log, none, _▸_, count}
 use Rattle.book.specs.Book.{since, bookOf}
 use Rattle.totals.specs.declared.Totals.{Totals}
 
--- How many scans of a history a test holds of. It is given the history up to and with the scan.
+-- `h ▸ x` is the history h and then the scan x. How many scans of a history pass a test, which is given the history up to and with the scan
 unfoldable pub scansWith : (Log Input → Bool) → Log Input → ℕ
 scansWith test none = 0
 scansWith test (h ▸ x) = scansWith test h + (if test (h ▸ x) then 1 else 0)
@@ -40,8 +41,11 @@ unfoldable pub overdueOf : Settings → Log Input → ℕ
 overdueOf s h = scansWith (lastEnded end-overdue s) h
 
 -- Under way: 1 if a command is, after the last scan, otherwise 0
+unfoldable pub underWayIn : Status → ℕ
+underWayIn v = if idle v then 0 else 1
+
 unfoldable pub underWayOf : Settings → Log Input → ℕ
-underWayOf s h = if idle (bookOf s h .status) then 0 else 1
+underWayOf s h = underWayIn (bookOf s h .status)
 
 -- On: the sum of the periods of all scans with a sure On reading. A pretended position is none.
 unfoldable pub onOf : Settings → Log Input → ℕ
@@ -71,7 +75,7 @@ bestOf s h = least (timesOf s h)
 unfoldable pub worstOf : Settings → Log Input → ℕ
 worstOf s h = greatest (timesOf s h)
 
--- All but the number, and under way
+-- All of a T line but its number and under way
 unfoldable pub totalsOf : Settings → Log Input → Totals
 totalsOf s h =
     record {

@@ -4,8 +4,8 @@ ghost use Prim.Native.Nat.{_+_};
 ghost use mathlib.Core.Path.{_≡_};
 ghost use Rattle.rules.specs.declared.Settings.{Settings};
 ghost use Rattle.book.specs.Log.{Log};
-ghost use Rattle.book.specs.History.{Entry};
-ghost use Rattle.totals.specs.Claim.{Balance};
+ghost use Rattle.book.specs.History.{Entry, history};
+ghost use Rattle.totals.specs.Claim.{TotalsClaim};
 ghost use Rattle.totals.specs.Running.{capped, noTotals, countedIf, hasIssued, onAfter, bestAfter, totalsAfter};
 use rules::Motor;
 use rules::Reading;
@@ -13,7 +13,7 @@ use rules::Status;
 use status::switches::position_read;
 use words::choose;
 
-// The largest number of a field.
+// The largest number of 32 bits.
 const MOST: u32 = 4294967295;
 
 // What the T line of a motor has, but for the motor's number and whether a command is under way, which its record says.
@@ -27,9 +27,9 @@ pub struct Totals {
     pub worst: u32,
 }
 
-// The totals of a motor that has not been scanned. Whatever scans it goes through from there, `Balance` holds of its totals.
+// The totals of a motor that has not been scanned. Whatever scans it goes through from there, the claim holds of its history.
 pub fn none() -> Totals
-    ensures { λ r. ⌜ (r ≡ noTotals) × ((s : Settings) (es : Log Entry) → Balance s es) ⌝ }
+    ensures { λ r. ⌜ (r ≡ noTotals) × ((s : Settings) (es : Log Entry) → TotalsClaim s (history s es)) ⌝ }
 {
     Totals {
         issued: 0,

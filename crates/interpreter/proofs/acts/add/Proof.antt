@@ -23,7 +23,7 @@ words-is c = simp length-map at (c .good .0 .1 .1 .1 .1 .0 .1 .0 .1)
 code : (c : tie.After-motor-refusal) → c .motor-refusal .result ≡ refusalFor (viewOf (c .before .before .args .b)) (M (c .before .before .args .number) (c .before .before .args .s .ops1) (c .before .before .args .s .ops2) (c .before .before .args .s .w) (c .before .before .args .s .u))
 code c =
     let e = c .before .before in
-    c .motor-refusal .ensures ∙ rw (c .before .in-use .ensures) (add-refusal (e .args .b) (motors-is e) (totals-is e) (words-is e) (e .args .number) (e .args .s))
+    c .motor-refusal .ensures ∙ rw (c .before .in-use .ensures) (add-refusal (e .args .b) (motors-is e) (words-is e) (e .args .number) (e .args .s))
 
 room : (c : tie.Then1) → c .before .before .in-use .result < 32
 unfolding mostMotors
@@ -36,7 +36,7 @@ returns c =
     let n = c .before .before .before .before .in-use .ensures in (
       code (c .before .before .before),
       rw (c .none .ensures .0, c .before .start .ensures .0, n)
-          (add-state (e .args .b) (motors-is e) (totals-is e) (words-is e) (e .args .s) (e .args .number) (rw n at (room (c .before .before))) ∙ sym (accepted _ _ (sym (code (c .before .before .before)) ∙ c .before .before .if1 .taken))),
+          (add-state (e .args .b) (motors-is e) (words-is e) (totals-is e) (e .args .s) (e .args .number) (rw n at (room (c .before .before))) ∙ sym (accepted _ _ (sym (code (c .before .before .before)) ∙ c .before .before .if1 .taken))),
     )
 
 returns-2 : tie.Need-returns-2

@@ -13,9 +13,6 @@ use Rattle.interpreter.proofs.acts.set_word.Tie as tie
 motors-is : (c : tie.Start) → length (c .args .b .motors) ≡ 32
 motors-is c = simp length-map at (c .good .0 .1 .1 .0 .1 .0 .1)
 
-totals-is : (c : tie.Start) → length (c .args .b .totals) ≡ 32
-totals-is c = simp length-map at (c .good .0 .1 .1 .1 .0 .1 .0 .1)
-
 words-is : (c : tie.Start) → length (c .args .b .words) ≡ 32
 words-is c = simp length-map at (c .good .0 .1 .1 .1 .1 .0 .1 .0 .1)
 
@@ -23,7 +20,7 @@ words-is c = simp length-map at (c .good .0 .1 .1 .1 .1 .0 .1 .0 .1)
 code : (c : tie.After-input-refusal) → c .input-refusal .result ≡ refusalFor (viewOf (c .before .before .args .b)) (I (c .before .before .args .number) (c .before .before .args .word))
 code c =
     let e = c .before .before in
-    c .input-refusal .ensures ∙ rw (c .before .in-use .ensures) (word-refusal (e .args .b) (motors-is e) (totals-is e) (words-is e) (e .args .number) (e .args .word))
+    c .input-refusal .ensures ∙ rw (c .before .in-use .ensures) (word-refusal (e .args .b) (motors-is e) (words-is e) (e .args .number) (e .args .word))
 
 there : (c : tie.Then1) → (1 ≤ c .before .before .before .args .number) × (c .before .before .before .args .number ≤ min (c .before .before .before .args .b .count) mostMotors)
 there c =
@@ -41,7 +38,7 @@ returns : tie.Need-returns
 returns c =
     let e = c .before .before .before in (
       code (c .before),
-      word-state (e .args .b) (motors-is e) (totals-is e) (words-is e) (e .args .number) (e .args .word) (there c .0) (there c .1)
+      word-state (e .args .b) (motors-is e) (words-is e) (e .args .number) (e .args .word) (there c .0) (there c .1)
           ∙ sym (accepted _ _ (sym (code (c .before)) ∙ c .if1 .taken)),
     )
 

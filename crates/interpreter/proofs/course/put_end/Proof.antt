@@ -5,7 +5,7 @@ use mathlib.Core.Path.{_≡_}
 use lib.ListN.{length, take, length-map}
 use Rattle.rules.specs.Refusals.{mostMotors}
 use Rattle.table.proofs.Rows.{blank}
-use Rattle.totals.proofs.Lists.{unused}
+use Rattle.totals.specs.Running.{noTotals}
 use Rattle.report.specs.Put.{Put}
 use Rattle.report.proofs.PutLaws.{put-length, put-none, then}
 use Rattle.interpreter.specs.Advance.{runningPrint, atEnd}
@@ -41,7 +41,7 @@ loop-again c =
     let e = l .before .before .before in
     let b = e .args .t1 in
     let here = below (c .before .before .before .before .before .before .before) in
-    (omega arith, rw (totals-more (l .loop .i) (b .motors) (b .totals) blank unused (omega (arith, here, motors-is e)) (omega (arith, here, totals-is e))) (then (l .loop .inv .1) (rw (c .before .before .before .totals-row .ensures) at (c .before .before .put-totals .ensures))))
+    (omega arith, rw (totals-more (l .loop .i) (b .motors) (b .totals) blank noTotals (omega (arith, here, motors-is e)) (omega (arith, here, totals-is e))) (then (l .loop .inv .1) (rw (c .before .before .before .totals-row .ensures) at (c .before .before .put-totals .ensures))))
 
 returns : tie.Need-returns Inv-loop μ-loop
 unfolding atEnd

@@ -9,8 +9,7 @@ use Rattle.rules.specs.Record.{withStatus}
 use Rattle.rules.specs.Steps.{step}
 use Rattle.rules.specs.declared.Motor.{Motor}
 use Rattle.totals.specs.declared.Totals.{Totals}
-use Rattle.totals.specs.Running.{scanTotals}
-use Rattle.totals.proofs.Lists.{unused}
+use Rattle.totals.specs.Running.{noTotals, scanTotals}
 use Rattle.rules.specs.Refusals.{mostMotors, oneRefusal}
 use Rattle.sheet.proofs.RequestLaws.{taken}
 use Rattle.table.proofs.Rows.{blank}
@@ -25,19 +24,19 @@ use Rattle.interpreter.proofs.scans.scan_lines.Tie as tie
 
 -- a sitting by its parts
 abbrev sit : List Motor → List Totals → List ℕ → ℕ → ℕ → ℕ → ℕ → Sitting
-sit motors sums words count scans at line = record { bench = record { motors = motors; totals = sums; words = words; count = count; scans = scans }; at = at; line = line }
+sit motors totals words count scans at line = record { bench = record { motors = motors; totals = totals; words = words; count = count; scans = scans }; at = at; line = line }
 
 abbrev Inv-loop2 : tie.InvT-loop2
-Inv-loop2 file out₀ to last count held motors₀ sums₀ words scans at line to₀ period next i₀ out motors sums to' i = (i ≤ held) × Scanning motors₀ sums₀ words period scans out₀ to₀ motors sums out to' i
+Inv-loop2 file out₀ to last count held motors₀ totals₀ words scans at line to₀ period next i₀ out motors totals to' i = (i ≤ held) × Scanning motors₀ totals₀ words period scans out₀ to₀ motors totals out to' i
 
 abbrev μ-loop2 : tie.MeasureT-loop2
-μ-loop2 file out₀ to last count held motors₀ sums₀ words scans at line to₀ period next i₀ out motors sums to' i = held - i
+μ-loop2 file out₀ to last count held motors₀ totals₀ words scans at line to₀ period next i₀ out motors totals to' i = held - i
 
 abbrev Inv-loop : tie.InvT-loop
-Inv-loop file out₀ to last count held motors₀ sums₀ words₀ scans₀ at₀ line₀ to₀ out motors sums words scans at line to' = (length motors ≡ 32) × (length sums ≡ 32) × (length words ≡ 32) × Ready (sit motors sums words count scans at line) × Scans file (sit motors₀ sums₀ words₀ count scans₀ at₀ line₀) out₀ to₀ last out (record { sitting = sit motors sums words count scans at line; to = to' })
+Inv-loop file out₀ to last count held motors₀ totals₀ words₀ scans₀ at₀ line₀ to₀ out motors totals words scans at line to' = (length motors ≡ 32) × (length totals ≡ 32) × (length words ≡ 32) × Ready (sit motors totals words count scans at line) × Scans file (sit motors₀ totals₀ words₀ count scans₀ at₀ line₀) out₀ to₀ last out (record { sitting = sit motors totals words count scans at line; to = to' })
 
 abbrev μ-loop : tie.MeasureT-loop
-μ-loop file out₀ to last count held motors₀ sums₀ words₀ scans₀ at₀ line₀ to₀ out motors sums words scans at line to' = length file - at
+μ-loop file out₀ to last count held motors₀ totals₀ words₀ scans₀ at₀ line₀ to₀ out motors totals words scans at line to' = length file - at
 
 -- the places on the way: the loop over the motors, the run of I lines before it, the loop over the lines, and the start
 abbrev lines : tie.At-loop2 Inv-loop2 μ-loop2 Inv-loop μ-loop → tie.At-loop Inv-loop2 μ-loop2 Inv-loop μ-loop
@@ -95,7 +94,7 @@ returns c =
     let inputs = rw (counted (c .before .before .before .before .before .before .before) .in-use .ensures) at (c .before .before .before .before .before .take-inputs .ensures) in
     rw (c .stand .ensures) (
       scans-inputs (l .inv .4) i (l .inv .0) inputs,
-      λ h period next e. untimely (record { motors = l .motors; totals = l .sums; words = i .words; count = start (c .before .before .before .before .before .before .before) .args .s .bench .count; scans = l .scans }) (l .inv .0) (l .inv .1) (inputs .size ∙ l .inv .2) period (rw (c .before .enum-told .given .1) at (c .before .before .before .next-scan .ensures) period next e),
+      λ h period next e. untimely (record { motors = l .motors; totals = l .totals; words = i .words; count = start (c .before .before .before .before .before .before .before) .args .s .bench .count; scans = l .scans }) (l .inv .0) (inputs .size ∙ l .inv .2) period (rw (c .before .enum-told .given .1) at (c .before .before .before .next-scan .ensures) period next e),
     )
 
 loop2-holds : tie.Need-loop2-holds Inv-loop2 μ-loop2 Inv-loop μ-loop
@@ -108,19 +107,19 @@ loop2-again c =
     let e = t .before in
     let j = c .before .before .before .before .before .before in
     let m = getD (e .loop2 .motors) (e .loop2 .i) blank in
-    let s = getD (e .loop2 .sums) (e .loop2 .i) unused in
+    let s = getD (e .loop2 .totals) (e .loop2 .i) noTotals in
     let word = getD (run e .take-inputs .result .words) (e .loop2 .i) 0 in
     let period = e .before .before .before .period .given .0 .0 in
     let l = lines e .loop .inv in
     let read = j .before .before .read .ensures in
     let here = below t in
     let later : j .if1 .motors ≡ set (e .loop2 .motors) (e .loop2 .i) (step m word period) =
-    ⊎-elim (λ w. w .5 ∙ set-rested (e .loop2 .motors) (e .loop2 .sums) (e .loop2 .i) m s word period (ready t) read (sym (j .before .is-resting .ensures) ∙ w .0 .taken) (w .2 .ensures))
-    (λ w. w .8 ∙ set-scanned (e .loop2 .motors) (e .loop2 .sums) (e .loop2 .i) m s word period (ready t) read (w .2 .ensures .1)) (j .if1 .came) in
-    let sums : j .if1 .sums ≡ set (e .loop2 .sums) (e .loop2 .i) (scanTotals s m word period) =
-    ⊎-elim (λ w. w .6 ∙ set-rested-totals (e .loop2 .motors) (e .loop2 .sums) (e .loop2 .i) m s word period (ready t) read (sym (j .before .is-resting .ensures) ∙ w .0 .taken) (w .4 .ensures))
-    (λ w. w .9 ∙ set-scanned-totals (e .loop2 .motors) (e .loop2 .sums) (e .loop2 .i) m s word period (ready t) read (w .2 .ensures .1) (w .7 .ensures)) (j .if1 .came) in
-    (omega (arith, t .loop2-test .taken), scanning-more (e .loop2 .inv .1) blank unused (omega (arith, here, l .0)) (omega (arith, here, l .1)) (omega (arith, here, l .2, run e .take-inputs .ensures .size)) later sums (rw (c .before .before .before .row .ensures) at (c .before .before .put-row .ensures)))
+    ⊎-elim (λ w. w .5 ∙ set-rested (e .loop2 .motors) (e .loop2 .totals) (e .loop2 .i) m s word period (ready t) read (sym (j .before .is-resting .ensures) ∙ w .0 .taken) (w .2 .ensures))
+    (λ w. w .8 ∙ set-scanned (e .loop2 .motors) (e .loop2 .totals) (e .loop2 .i) m s word period (ready t) read (w .2 .ensures .1)) (j .if1 .came) in
+    let totals : j .if1 .totals ≡ set (e .loop2 .totals) (e .loop2 .i) (scanTotals s m word period) =
+    ⊎-elim (λ w. w .6 ∙ set-rested-totals (e .loop2 .motors) (e .loop2 .totals) (e .loop2 .i) m s word period (ready t) read (sym (j .before .is-resting .ensures) ∙ w .0 .taken) (w .4 .ensures))
+    (λ w. w .9 ∙ set-scanned-totals (e .loop2 .motors) (e .loop2 .totals) (e .loop2 .i) m s word period (ready t) read (w .2 .ensures .1) (w .7 .ensures)) (j .if1 .came) in
+    (omega (arith, t .loop2-test .taken), scanning-more (e .loop2 .inv .1) blank noTotals (omega (arith, here, l .0)) (omega (arith, here, l .1)) (omega (arith, here, l .2, run e .take-inputs .ensures .size)) later totals (rw (c .before .before .before .row .ensures) at (c .before .before .put-row .ensures)))
 
 loop-less : tie.Need-loop-less Inv-loop2 μ-loop2 Inv-loop μ-loop
 loop-less c =

@@ -7,14 +7,14 @@ use Rattle.rules.specs.Refusals.{mostMotors}
 use Rattle.totals.specs.Running.{allTotals}
 use Rattle.totals.proofs.Lists.{none-taken}
 use Rattle.interpreter.proofs.ActLaws.{counted-more}
-use Rattle.interpreter.proofs.acts.totals_after.Statement.{statement}
-use Rattle.interpreter.proofs.acts.totals_after.Tie as tie
+use Rattle.interpreter.proofs.acts.all_totals.Statement.{statement}
+use Rattle.interpreter.proofs.acts.all_totals.Tie as tie
 
 abbrev Inv-loop : tie.InvT-loop
-Inv-loop held period motors after words sums₀ i₀ sums i = (i ≤ held) × (sums ≡ allTotals sums₀ motors (take i words) period)
+Inv-loop held period motors after words totals₀ i₀ totals i = (i ≤ held) × (totals ≡ allTotals totals₀ motors (take i words) period)
 
 abbrev μ-loop : tie.MeasureT-loop
-μ-loop held period motors after words sums₀ i₀ sums i = held - i
+μ-loop held period motors after words totals₀ i₀ totals i = held - i
 
 motors-is : (c : tie.Start Inv-loop μ-loop) → length (c .args .t2) ≡ 32
 motors-is c = c .good .1 .0 .1 .0 .1
@@ -36,7 +36,7 @@ loop-again c =
     let l = c .before .before .before .before .before .before .before .before in
     let e = l .before in
     let here = below (c .before .before .before .before .before .before .before) in
-    (omega arith, counted-more (e .args .t2) (e .args .t3) (e .args .totals) (l .loop .sums) (e .args .t4) (e .args .period) (e .args .held) (l .loop .i) (e .pre .1) (omega (arith, words-is e)) (omega arith) (omega (arith, here, motors-is e)) (omega (arith, here, totals-is e)) (l .loop .inv .1) (rw (c .before .read .ensures) at (c .after .ensures)))
+    (omega arith, counted-more (e .args .t2) (e .args .t3) (e .args .totals) (l .loop .totals) (e .args .t4) (e .args .period) (e .args .held) (l .loop .i) (e .pre .1) (omega (arith, words-is e)) (omega arith) (omega (arith, here, motors-is e)) (omega (arith, here, totals-is e)) (l .loop .inv .1) (rw (c .before .read .ensures) at (c .after .ensures)))
 
 returns : tie.Need-returns Inv-loop μ-loop
 returns c =
@@ -44,8 +44,8 @@ returns c =
     let h : c .before .loop .i ≡ e .held = omega arith in
     c .before .loop .inv .1 ∙ ap (λ (k : ℕ). allTotals (e .totals) (e .t2) (take k (e .t4)) (e .period)) h
 
-pub totals-after-spec : {M : Type 1} → statement M
-totals-after-spec =
+pub all-totals-spec : {M : Type 1} → statement M
+all-totals-spec =
     tie.close
     (tie.spec
     Inv-loop
