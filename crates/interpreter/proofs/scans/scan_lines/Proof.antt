@@ -56,14 +56,26 @@ found : (c : tie.At-loop2 Inv-loop2 μ-loop2 Inv-loop μ-loop)
     → FoundScan (start (lines c) .args .file .now) (run c .take-inputs .result .at) (Period (c .before .before .before .period .given .0 .0) (c .before .before .before .period .given .0 .1 .0))
 found c = rw (c .before .before .before .period .given .1) at (c .before .before .before .before .before .next-scan .ensures)
 
--- the motor whose turn it is
+-- the motor whose turn it is, its totals, its word and the period
+abbrev motorAt : tie.At-loop2 Inv-loop2 μ-loop2 Inv-loop μ-loop → Motor
+motorAt c = getD (c .loop2 .motors) (c .loop2 .i) blank
+
+abbrev totalsAt : tie.At-loop2 Inv-loop2 μ-loop2 Inv-loop μ-loop → Totals
+totalsAt c = getD (c .loop2 .totals) (c .loop2 .i) noTotals
+
+abbrev wordAt : tie.At-loop2 Inv-loop2 μ-loop2 Inv-loop μ-loop → ℕ
+wordAt c = getD (run c .take-inputs .result .words) (c .loop2 .i) 0
+
+abbrev periodAt : tie.At-loop2 Inv-loop2 μ-loop2 Inv-loop μ-loop → ℕ
+periodAt c = c .before .before .before .period .given .0 .0
+
 below : (c : tie.In-loop2 Inv-loop2 μ-loop2 Inv-loop μ-loop) → c .before .loop2 .i < 32
 unfolding mostMotors
 below c = omega (arith, c .loop2-test .taken, counted (lines (c .before)) .in-use .ensures)
 
 -- it is accepted
 ready : (c : tie.In-loop2 Inv-loop2 μ-loop2 Inv-loop μ-loop)
-    → oneRefusal (getD (c .before .loop2 .motors) (c .before .loop2 .i) blank) (getD (run (c .before) .take-inputs .result .words) (c .before .loop2 .i) 0) (c .before .before .before .before .period .given .0 .0) ≡ 0
+    → oneRefusal (motorAt (c .before)) (wordAt (c .before)) (periodAt (c .before)) ≡ 0
 ready c =
     let e = c .before in
     let l = lines e .loop in
@@ -100,26 +112,34 @@ returns c =
 loop2-holds : tie.Need-loop2-holds Inv-loop2 μ-loop2 Inv-loop μ-loop
 loop2-holds c = (omega arith, scanning-none)
 
-loop2-again : tie.Need-loop2-again Inv-loop2 μ-loop2 Inv-loop μ-loop
+-- the motor's turn, once it is scanned: the lists with it and its totals after its scan, at rest or not
+abbrev turn : tie.Joined1 Inv-loop2 μ-loop2 Inv-loop μ-loop → tie.In-loop2 Inv-loop2 μ-loop2 Inv-loop μ-loop
+turn j = j .before .before .before .before .before .before .before
+
+motors-later : (j : tie.Joined1 Inv-loop2 μ-loop2 Inv-loop μ-loop)
+    → j .if1 .motors ≡ set (turn j .before .loop2 .motors) (turn j .before .loop2 .i) (step (motorAt (turn j .before)) (wordAt (turn j .before)) (periodAt (turn j .before)))
 unfolding withStatus
-loop2-again c =
-    let t = c .before .before .before .before .before .before .before .before .before .before .before .before .before in
-    let e = t .before in
-    let j = c .before .before .before .before .before .before in
-    let m = getD (e .loop2 .motors) (e .loop2 .i) blank in
-    let s = getD (e .loop2 .totals) (e .loop2 .i) noTotals in
-    let word = getD (run e .take-inputs .result .words) (e .loop2 .i) 0 in
-    let period = e .before .before .before .period .given .0 .0 in
-    let l = lines e .loop .inv in
+motors-later j =
+    let e = turn j .before in
     let read = j .before .before .read .ensures in
-    let here = below t in
-    let later : j .if1 .motors ≡ set (e .loop2 .motors) (e .loop2 .i) (step m word period) =
-    ⊎-elim (λ w. w .5 ∙ set-rested (e .loop2 .motors) (e .loop2 .totals) (e .loop2 .i) m s word period (ready t) read (sym (j .before .is-resting .ensures) ∙ w .0 .taken) (w .2 .ensures))
-    (λ w. w .8 ∙ set-scanned (e .loop2 .motors) (e .loop2 .totals) (e .loop2 .i) m s word period (ready t) read (w .2 .ensures .1)) (j .if1 .came) in
-    let totals : j .if1 .totals ≡ set (e .loop2 .totals) (e .loop2 .i) (scanTotals s m word period) =
-    ⊎-elim (λ w. w .6 ∙ set-rested-totals (e .loop2 .motors) (e .loop2 .totals) (e .loop2 .i) m s word period (ready t) read (sym (j .before .is-resting .ensures) ∙ w .0 .taken) (w .4 .ensures))
-    (λ w. w .9 ∙ set-scanned-totals (e .loop2 .motors) (e .loop2 .totals) (e .loop2 .i) m s word period (ready t) read (w .2 .ensures .1) (w .7 .ensures)) (j .if1 .came) in
-    (omega (arith, t .loop2-test .taken), scanning-more (e .loop2 .inv .1) blank noTotals (omega (arith, here, l .0)) (omega (arith, here, l .1)) (omega (arith, here, l .2, run e .take-inputs .ensures .size)) later totals (rw (c .before .before .before .row .ensures) at (c .before .before .put-row .ensures)))
+    ⊎-elim (λ w. w .5 ∙ set-rested (e .loop2 .motors) (e .loop2 .totals) (e .loop2 .i) (motorAt e) (totalsAt e) (wordAt e) (periodAt e) (ready (turn j)) read (sym (j .before .is-resting .ensures) ∙ w .0 .taken) (w .2 .ensures))
+    (λ w. w .8 ∙ set-scanned (e .loop2 .motors) (e .loop2 .totals) (e .loop2 .i) (motorAt e) (totalsAt e) (wordAt e) (periodAt e) (ready (turn j)) read (w .2 .ensures .1)) (j .if1 .came)
+
+totals-later : (j : tie.Joined1 Inv-loop2 μ-loop2 Inv-loop μ-loop)
+    → j .if1 .totals ≡ set (turn j .before .loop2 .totals) (turn j .before .loop2 .i) (scanTotals (totalsAt (turn j .before)) (motorAt (turn j .before)) (wordAt (turn j .before)) (periodAt (turn j .before)))
+totals-later j =
+    let e = turn j .before in
+    let read = j .before .before .read .ensures in
+    ⊎-elim (λ w. w .6 ∙ set-rested-totals (e .loop2 .motors) (e .loop2 .totals) (e .loop2 .i) (motorAt e) (totalsAt e) (wordAt e) (periodAt e) (ready (turn j)) read (sym (j .before .is-resting .ensures) ∙ w .0 .taken) (w .4 .ensures))
+    (λ w. w .9 ∙ set-scanned-totals (e .loop2 .motors) (e .loop2 .totals) (e .loop2 .i) (motorAt e) (totalsAt e) (wordAt e) (periodAt e) (ready (turn j)) read (w .2 .ensures .1) (w .7 .ensures)) (j .if1 .came)
+
+loop2-again : tie.Need-loop2-again Inv-loop2 μ-loop2 Inv-loop μ-loop
+loop2-again c =
+    let j = c .before .before .before .before .before .before in
+    let e = turn j .before in
+    let l = lines e .loop .inv in
+    let here = below (turn j) in
+    (omega (arith, turn j .loop2-test .taken), scanning-more (e .loop2 .inv .1) blank noTotals (omega (arith, here, l .0)) (omega (arith, here, l .1)) (omega (arith, here, l .2, run e .take-inputs .ensures .size)) (motors-later j) (totals-later j) (rw (c .before .before .before .row .ensures) at (c .before .before .put-row .ensures)))
 
 loop-less : tie.Need-loop-less Inv-loop2 μ-loop2 Inv-loop μ-loop
 loop-less c =
