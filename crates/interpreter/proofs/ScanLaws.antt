@@ -7,14 +7,14 @@ use native.Mathlib.Nat.{min-le-right}
 use native.Mathlib.Omega.{arith}
 use native.Mathlib.Numerals.{add-one}
 use lib.ListN.{length, getD, set, take, length-set}
-use lib.Seq.{getD-take, take-set-le, length-take-le}
-use borrow.Author.Tests.{leb-true, eq-eqb, le-ltb}
+use lib.Seq.{getD-take, set-getD, take-set-le, length-take-le}
+use borrow.Author.Tests.{leb-true, eq-eqb, ne-eqb, le-ltb}
 use Rattle.words.specs.Word.{if_then_else_}
 use Rattle.rules.specs.declared.Motor.{Motor}
 use Rattle.rules.specs.declared.Status.{Status}
-use Rattle.rules.specs.Record.{withStatus}
+use Rattle.rules.specs.Record.{on, withStatus}
 use Rattle.rules.specs.declared.Reading.{Reading}
-use Rattle.rules.specs.Steps.{reading, step}
+use Rattle.rules.specs.Steps.{reading, positionRead, step}
 use Rattle.rules.specs.Resting.{rests, restedStatus}
 use Rattle.rules.specs.Refusals.{mostMotors, inRange, wordOk, periodOk, allOk, misfit, oneRefusal, oneAfter, stepAll, tableRefusal, partRefusal, partAfter}
 use Rattle.rules.proofs.Range.{one-in-limits, steppable}
@@ -65,10 +65,15 @@ module _ (ms : List Motor) (ts : List Totals) (i : ℕ) (m : Motor) (t : Totals)
     pub set-rested : {v : Status} → v ≡ restedStatus (m .settings) (m .status) word r → set ms i (withStatus m v) ≡ set ms i (step m word period)
     set-rested f = ap (set ms i) (ap (withStatus m) (rw read at f) ∙ sym (rested m word period ok e))
 
-    pub set-rested-totals : {on : ℕ} → on ≡ onAfter (t .on) r period → set ts i (withOn t on) ≡ set ts i (scanTotals t m word period)
+    pub set-rested-totals : {time : ℕ} → time ≡ onAfter (t .on) r period → set ts i (withOn t time) ≡ set ts i (scanTotals t m word period)
     unfolding scanTotals rests withStatus
     set-rested-totals f =
         ap (set ts i) (rw (rested m word period ok e, f, read) (sym (rest-totals t m word period (reading (m .settings) word) (and-true _ _ (and-true _ _ e .0) .0))))
+
+    -- without a sure On reading they stay
+    pub rested-totals-kept : (d : Totals) → (positionRead r ≡ on → ⊥) → t ≡ getD ts i d → ts ≡ set ts i (scanTotals t m word period)
+    unfolding onAfter if_then_else_
+    rested-totals-kept d other same = sym (set-getD ts i d) ∙ ap (set ts i) (sym same) ∙ set-rested-totals (rw (ne-eqb (positionRead r) on other))
 
   module _ {n : Motor} (f : n ≡ oneAfter m word period) where
     pub set-scanned : set ms i n ≡ set ms i (step m word period)

@@ -15,6 +15,7 @@ use rules::Motor;
 use sheet::Next;
 use sheet::Request;
 use sheet::next_request;
+use status::switches::position_read;
 use status::switches::read;
 
 // An S line whose period is one of a scan, with the place of the next line; or any other line.
@@ -103,15 +104,19 @@ fn scan_lines(file: &[u8], s: Sitting, out: &mut [u8], to: usize, last: usize) -
             let settings = m.settings;
             let v = m.status;
             let o = m.output;
-            let r = read(settings, word);
             if motor::is_resting(settings, v, o, word) {
+                let r = read(settings, word);
+                // without a sure On reading its totals stay
+                if position_read(r) == 2 {
+                    let mut counted = totals[i];
+                    counted.on = totals::on_after(counted.on, r, period);
+                    totals[i] = counted;
+                }
                 let mut rested = motors[i];
                 rested.status = motor::rest(settings, v, word, r);
                 motors[i] = rested;
-                let mut counted = totals[i];
-                counted.on = totals::on_after(counted.on, r, period);
-                totals[i] = counted;
             } else {
+                let r = read(settings, word);
                 let scanned = motor::scan(motors[i], word, period);
                 let stepped = scanned.motor;
                 let w = stepped.status;

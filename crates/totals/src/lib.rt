@@ -86,10 +86,15 @@ pub fn after(t: Totals, m: Motor, v: Status, r: Reading, period: u32) -> Totals
     ensures { λ x. ⌜ x ≡ totalsAfter t m v r period ⌝ }
 {
     let mut n = t;
-    n.issued = count_if(t.issued, has_issued(m.status.command, v));
+    n.on = on_after(t.on, r, period);
+    let issued = has_issued(m.status.command, v);
+    // most scans neither issue nor end a command
+    if (v.end == 0) & !issued {
+        return n;
+    }
+    n.issued = count_if(t.issued, issued);
     n.displaced = count_if(t.displaced, v.end == 2);
     n.overdue = count_if(t.overdue, v.end == 3);
-    n.on = on_after(t.on, r, period);
     if v.end == 1 {
         let time = plus(m.sum, period);
         n.confirmed = plus(t.confirmed, 1);

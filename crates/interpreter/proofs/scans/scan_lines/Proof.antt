@@ -2,7 +2,7 @@ use borrow.Author.Needs.{needs}
 use native.Mathlib.Omega.{arith}
 use Prim.Native.Nat.{ℕ, _-_, _<_, _≤_}
 use mathlib.Core.Logic.{⊎-elim}
-use mathlib.Core.Path.{_≡_, sym, _∙_}
+use mathlib.Core.Path.{_≡_, refl, sym, _∙_}
 use mathlib.Core.List.{List}
 use lib.ListN.{length, getD, set, length-map}
 use Rattle.rules.specs.Record.{withStatus}
@@ -18,7 +18,7 @@ use Rattle.interpreter.specs.Runs.{FoundScan, Ready, Scans}
 use Rattle.interpreter.specs.declared.Sitting.{Sitting}
 use Rattle.interpreter.specs.declared.scans.NextScan.the-variants.{Period}
 use Rattle.interpreter.proofs.AdvanceLaws.{scans-none, scans-inputs}
-use Rattle.interpreter.proofs.ScanLaws.{set-rested, set-rested-totals, set-scanned, set-scanned-totals, Scanning, scanning-none, scanning-more, waiting, untimely, each-due, line-scanned}
+use Rattle.interpreter.proofs.ScanLaws.{set-rested, set-rested-totals, rested-totals-kept, set-scanned, set-scanned-totals, Scanning, scanning-none, scanning-more, waiting, untimely, each-due, line-scanned}
 use Rattle.interpreter.proofs.scans.scan_lines.Statement.{statement}
 use Rattle.interpreter.proofs.scans.scan_lines.Tie as tie
 
@@ -114,24 +114,23 @@ loop2-holds c = (omega arith, scanning-none)
 
 -- the motor's turn, once it is scanned: the lists with it and its totals after its scan, at rest or not
 abbrev turn : tie.Joined1 Inv-loop2 μ-loop2 Inv-loop μ-loop → tie.In-loop2 Inv-loop2 μ-loop2 Inv-loop μ-loop
-turn j = j .before .before .before .before .before .before .before
+turn j = j .before .before .before .before .before .before
 
 motors-later : (j : tie.Joined1 Inv-loop2 μ-loop2 Inv-loop μ-loop)
     → j .if1 .motors ≡ set (turn j .before .loop2 .motors) (turn j .before .loop2 .i) (step (motorAt (turn j .before)) (wordAt (turn j .before)) (periodAt (turn j .before)))
 unfolding withStatus
 motors-later j =
     let e = turn j .before in
-    let read = j .before .before .read .ensures in
-    ⊎-elim (λ w. w .5 ∙ set-rested (e .loop2 .motors) (e .loop2 .totals) (e .loop2 .i) (motorAt e) (totalsAt e) (wordAt e) (periodAt e) (ready (turn j)) read (sym (j .before .is-resting .ensures) ∙ w .0 .taken) (w .2 .ensures))
-    (λ w. w .8 ∙ set-scanned (e .loop2 .motors) (e .loop2 .totals) (e .loop2 .i) (motorAt e) (totalsAt e) (wordAt e) (periodAt e) (ready (turn j)) read (w .2 .ensures .1)) (j .if1 .came)
+    ⊎-elim (λ w. w .6 ∙ set-rested (e .loop2 .motors) (e .loop2 .totals) (e .loop2 .i) (motorAt e) (totalsAt e) (wordAt e) (periodAt e) (ready (turn j)) (w .1 .ensures) (sym (j .before .is-resting .ensures) ∙ w .0 .taken) (w .5 .ensures))
+    (λ w. w .9 ∙ set-scanned (e .loop2 .motors) (e .loop2 .totals) (e .loop2 .i) (motorAt e) (totalsAt e) (wordAt e) (periodAt e) (ready (turn j)) (w .1 .ensures) (w .3 .ensures .1)) (j .if1 .came)
 
 totals-later : (j : tie.Joined1 Inv-loop2 μ-loop2 Inv-loop μ-loop)
     → j .if1 .totals ≡ set (turn j .before .loop2 .totals) (turn j .before .loop2 .i) (scanTotals (totalsAt (turn j .before)) (motorAt (turn j .before)) (wordAt (turn j .before)) (periodAt (turn j .before)))
 totals-later j =
     let e = turn j .before in
-    let read = j .before .before .read .ensures in
-    ⊎-elim (λ w. w .6 ∙ set-rested-totals (e .loop2 .motors) (e .loop2 .totals) (e .loop2 .i) (motorAt e) (totalsAt e) (wordAt e) (periodAt e) (ready (turn j)) read (sym (j .before .is-resting .ensures) ∙ w .0 .taken) (w .4 .ensures))
-    (λ w. w .9 ∙ set-scanned-totals (e .loop2 .motors) (e .loop2 .totals) (e .loop2 .i) (motorAt e) (totalsAt e) (wordAt e) (periodAt e) (ready (turn j)) read (w .2 .ensures .1) (w .7 .ensures)) (j .if1 .came)
+    ⊎-elim (λ w. w .7 ∙ ⊎-elim (λ x. x .3 ∙ set-rested-totals (e .loop2 .motors) (e .loop2 .totals) (e .loop2 .i) (motorAt e) (totalsAt e) (wordAt e) (periodAt e) (ready (turn j)) (w .1 .ensures) (sym (j .before .is-resting .ensures) ∙ w .0 .taken) (x .2 .ensures))
+    (λ x. x .1 ∙ rested-totals-kept (e .loop2 .motors) (e .loop2 .totals) (e .loop2 .i) (motorAt e) (totalsAt e) (wordAt e) (periodAt e) (ready (turn j)) (w .1 .ensures) (sym (j .before .is-resting .ensures) ∙ w .0 .taken) noTotals (λ q. x .0 .left (w .2 .ensures ∙ q)) refl) (w .3 .came))
+    (λ w. w .10 ∙ set-scanned-totals (e .loop2 .motors) (e .loop2 .totals) (e .loop2 .i) (motorAt e) (totalsAt e) (wordAt e) (periodAt e) (ready (turn j)) (w .1 .ensures) (w .3 .ensures .1) (w .8 .ensures)) (j .if1 .came)
 
 loop2-again : tie.Need-loop2-again Inv-loop2 μ-loop2 Inv-loop μ-loop
 loop2-again c =
@@ -186,16 +185,18 @@ scan-lines-spec =
     (λ c. omega (arith, below c))
     (λ c κs. search needs)
     (λ c κs. search needs)
-    (λ c. omega (arith, below (c .before .before .before .before .before .before .before)))
-    (λ c. omega (arith, below (c .before .before .before .before .before .before .before)))
     (λ c κs. search needs)
-    (λ c. omega (arith, below (c .before .before .before .before .before .before .before .before .before)))
-    (λ c. omega (arith, below (c .before .before .before .before .before .before .before .before .before)))
     (λ c. omega (arith, below (c .before .before .before .before .before .before .before .before .before)))
     (λ c. omega (arith, below (c .before .before .before .before .before .before .before .before .before)))
     (λ c κs. search needs)
     (λ c. omega (arith, below (c .before .before .before .before .before .before .before .before .before .before .before)))
     (λ c. omega (arith, below (c .before .before .before .before .before .before .before .before .before .before .before)))
+    (λ c. omega (arith, below (c .before .before .before .before .before .before .before .before .before)))
+    (λ c. omega (arith, below (c .before .before .before .before .before .before .before .before .before)))
+    (λ c κs. search needs)
+    (λ c. omega (arith, below (c .before .before .before .before .before .before .before .before .before .before .before)))
+    (λ c. omega (arith, below (c .before .before .before .before .before .before .before .before .before .before .before)))
+    (λ c κs. search needs)
     (λ c. omega (arith, below (c .before .before .before .before .before .before .before)))
     (λ c. omega (arith, below (c .before .before .before .before .before .before .before)))
     (λ c κs. search needs)
@@ -208,14 +209,14 @@ scan-lines-spec =
     (λ c. omega (arith, below (c .before .before .before .before .before .before .before .before .before .before .before .before .before .before)))
     (λ c. omega (arith, below (c .before .before .before .before .before .before .before .before .before .before .before .before .before .before)))
     (λ c. omega (arith, below (c .before .before .before .before .before .before .before .before .before .before .before .before .before .before)))
-    (λ c. omega (arith, below (c .before .before .before .before .before .before .before)))
-    (λ c. omega (arith, below (c .before .before .before .before .before .before .before)))
-    (λ c. omega (arith, below (c .before .before .before .before .before .before .before .before .before)))
-    (λ c. omega (arith, below (c .before .before .before .before .before .before .before .before .before)))
+    (λ c. omega (arith, below (c .before .before .before .before .before .before)))
+    (λ c. omega (arith, below (c .before .before .before .before .before .before)))
+    (λ c. omega (arith, below (c .before .before .before .before .before .before .before .before)))
+    (λ c. omega (arith, below (c .before .before .before .before .before .before .before .before)))
     (λ c κs. search needs)
     (λ c κs. search needs)
-    (λ c. omega (arith, below (c .before .before .before .before .before .before .before .before .before .before .before .before .before)))
-    (λ c. omega (arith, c .before .before .before .before .before .before .before .before .before .before .before .before .before .loop2-test .taken))
+    (λ c. omega (arith, below (c .before .before .before .before .before .before .before .before .before .before .before .before)))
+    (λ c. omega (arith, c .before .before .before .before .before .before .before .before .before .before .before .before .loop2-test .taken))
     loop2-again
     (λ c κs. search needs)
     loop-less
