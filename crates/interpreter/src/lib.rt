@@ -13,13 +13,14 @@ use rules::Motor;
 use table::MOST_MOTORS;
 use totals::Totals;
 
-// The first `count` elements of the arrays are in use: the motors by rising number, their totals, and the word that each holds.
+// The first `count` elements of the arrays are in use: the motors by rising number, the word that each holds, and their totals,
+// which stand last, since a bench is copied faster so.
 pub struct Bench {
     pub motors: [Motor; MOST_MOTORS],
-    pub totals: [Totals; MOST_MOTORS],
     pub words: [u32; MOST_MOTORS],
     pub count: usize,
     pub scans: u32,
+    pub totals: [Totals; MOST_MOTORS],
 }
 
 // What a request makes: its refusal, 0 if it is accepted, and the bench after it.

@@ -47,7 +47,7 @@ underWayIn v = if idle v then 0 else 1
 unfoldable pub underWayOf : Settings → Log Input → ℕ
 underWayOf s h = underWayIn (bookOf s h .status)
 
--- On: the sum of the periods of all scans with a sure On reading. A pretended position is none.
+-- On: the sum of the periods of all scans with a sure On reading. A pretended position does not count.
 unfoldable pub onOf : Settings → Log Input → ℕ
 onOf s none = 0
 onOf s (h ▸ x) = onOf s h + (if eqb (positionRead (reading s (x .word))) on then x .period else 0)

@@ -14,10 +14,10 @@ motors-is : (c : tie.Start) → length (c .args .b .motors) ≡ 32
 motors-is c = simp length-map at (c .good .0 .1 .1 .0 .1 .0 .1)
 
 totals-is : (c : tie.Start) → length (c .args .b .totals) ≡ 32
-totals-is c = simp length-map at (c .good .0 .1 .1 .1 .0 .1 .0 .1)
+totals-is c = simp length-map at (c .good .0 .1 .1 .1 .1 .1 .1 .0 .1 .0 .1)
 
 words-is : (c : tie.Start) → length (c .args .b .words) ≡ 32
-words-is c = simp length-map at (c .good .0 .1 .1 .1 .1 .0 .1 .0 .1)
+words-is c = simp length-map at (c .good .0 .1 .1 .1 .0 .1 .0 .1)
 
 -- the refusal is the definition's
 code : (c : tie.After-motor-refusal) → c .motor-refusal .result ≡ refusalFor (viewOf (c .before .before .args .b)) (M (c .before .before .args .number) (c .before .before .args .s .ops1) (c .before .before .args .s .ops2) (c .before .before .args .s .w) (c .before .before .args .s .u))

@@ -15,10 +15,10 @@ motors-is : (c : tie.Start) → length (c .args .b .motors) ≡ 32
 motors-is c = simp length-map at (c .good .0 .1 .1 .0 .1 .0 .1)
 
 totals-is : (c : tie.Start) → length (c .args .b .totals) ≡ 32
-totals-is c = simp length-map at (c .good .0 .1 .1 .1 .0 .1 .0 .1)
+totals-is c = simp length-map at (c .good .0 .1 .1 .1 .1 .1 .1 .0 .1 .0 .1)
 
 words-is : (c : tie.Start) → length (c .args .b .words) ≡ 32
-words-is c = simp length-map at (c .good .0 .1 .1 .1 .1 .0 .1 .0 .1)
+words-is c = simp length-map at (c .good .0 .1 .1 .1 .0 .1 .0 .1)
 
 -- the refusal is the definition's
 code : (c : tie.After-scan-array) → c .scan-array .result .refusal ≡ refusalFor (viewOf (c .before .before .before .before .args .b)) (S (c .before .before .before .before .args .period))

@@ -9,7 +9,7 @@ returns : tie.Need-returns
 returns c =
     let e = c .before .before .before .before in
     let is = simp length-map at (e .good .0 .1 .1 .0 .1 .0 .1) in
-    let js = simp length-map at (e .good .0 .1 .1 .1 .1 .0 .1 .0 .1) in
+    let js = simp length-map at (e .good .0 .1 .1 .1 .0 .1 .0 .1) in
     c .refusal-array .ensures ∙ rw (c .before .in-use .ensures) (scan-refusal (e .args .b) is js (e .args .period))
 
 pub scan-refusal-spec : {M : Type 1} → statement M

@@ -14,7 +14,7 @@ motors-is : (c : tie.Start) → length (c .args .b .motors) ≡ 32
 motors-is c = simp length-map at (c .good .0 .1 .1 .0 .1 .0 .1)
 
 words-is : (c : tie.Start) → length (c .args .b .words) ≡ 32
-words-is c = simp length-map at (c .good .0 .1 .1 .1 .1 .0 .1 .0 .1)
+words-is c = simp length-map at (c .good .0 .1 .1 .1 .0 .1 .0 .1)
 
 -- the refusal is the definition's
 code : (c : tie.After-input-refusal) → c .input-refusal .result ≡ refusalFor (viewOf (c .before .before .args .b)) (I (c .before .before .args .number) (c .before .before .args .word))

@@ -24,7 +24,7 @@ motors-is : (c : tie.Start Inv-loop μ-loop) → length (c .args .t1 .motors) �
 motors-is c = simp length-map at (c .good .0 .1 .1 .0 .1 .0 .1)
 
 totals-is : (c : tie.Start Inv-loop μ-loop) → length (c .args .t1 .totals) ≡ 32
-totals-is c = simp length-map at (c .good .0 .1 .1 .1 .0 .1 .0 .1)
+totals-is c = simp length-map at (c .good .0 .1 .1 .1 .1 .1 .1 .0 .1 .0 .1)
 
 -- the motor whose turn it is
 below : (c : tie.In-loop Inv-loop μ-loop) → c .before .loop .i < 32

@@ -87,7 +87,7 @@ ready c =
 loop-holds : tie.Need-loop-holds Inv-loop2 μ-loop2 Inv-loop μ-loop
 loop-holds c =
     let e = c .before .before .before .before .before .before .before in
-    (simp length-map at (e .good .1 .0 .1 .1 .0 .1 .1 .0 .1 .0 .1), simp length-map at (e .good .1 .0 .1 .1 .0 .1 .1 .1 .0 .1 .0 .1), simp length-map at (e .good .1 .0 .1 .1 .0 .1 .1 .1 .1 .0 .1 .0 .1), e .pre .1, scans-none (e .pre .0 .begins))
+    (simp length-map at (e .good .1 .0 .1 .1 .0 .1 .1 .0 .1 .0 .1), simp length-map at (e .good .1 .0 .1 .1 .0 .1 .1 .1 .1 .1 .1 .0 .1 .0 .1), simp length-map at (e .good .1 .0 .1 .1 .0 .1 .1 .1 .0 .1 .0 .1), e .pre .1, scans-none (e .pre .0 .begins))
 
 take-inputs-requires : tie.Need-take-inputs-requires Inv-loop2 μ-loop2 Inv-loop μ-loop
 unfolding mostMotors
