@@ -9,11 +9,10 @@ use lib.Dec.{eqb, lit<}
 use lib.Bits.{bitAnd, bitOr, and-high}
 use lib.Count.{ones, trailingZeros, ones-cat}
 use Rattle.words.specs.Word.{if_then_else_, bitOf, isSet, rose, without}
-use Rattle.words.proofs.Laws.{risen-is}
+use Rattle.words.proofs.Laws.{risen-is, agree-at}
 use Rattle.rules.specs.declared.Status.{Status}
 use Rattle.rules.specs.Record.{repair, reserve, work, bitRisen}
 use Rattle.rules.specs.Steps.{modesRisen, modeAsked}
-use Rattle.status.proofs.Tables.{agree-at}
 
 -- how many of three bits there are, and the mode of the lowest
 howMany : Bool → Bool → Bool → ℕ

@@ -1,31 +1,18 @@
 -- The constant arrays of the commands: each agrees with its rule at every number, by one test that antt computes. So does the list of the
 -- commands, of which the choice takes the first. Assumes nothing.
 use mathlib.Core.Path.{_≡_, refl, ap}
-use mathlib.Core.Bool.{Bool, true, false, _&&_}
+use mathlib.Core.Bool.{Bool, false}
 use mathlib.Core.List.{[], _∷_}
-use Prim.Native.Nat.{ℕ, zero, suc, _-_, _<_, _≤_}
+use Prim.Native.Nat.{ℕ, suc, _-_, _<_, _≤_}
 use native.Mathlib.Omega.{arith}
 use lib.Dec.{eqb, lit<}
 use lib.ListN.{length, getD, drop}
 use lib.Seq.{drop-cons}
-use borrow.Author.Tests.{eqb-true, eqb-false, ne-eqb}
+use borrow.Author.Tests.{ne-eqb}
 use Rattle.words.specs.Word.{if_then_else_}
-use Rattle.words.proofs.Laws.{and-true}
+use Rattle.words.proofs.Laws.{agree-at}
 use Rattle.rules.specs.Record.{commands, direction, inputBit}
 use Rattle.rules.specs.Steps.{firstOf}
-
--- f and g are equal at each number below n
-abbrev pub agree : (ℕ → ℕ) → (ℕ → ℕ) → ℕ → Bool
-agree f g zero = true
-agree f g (suc n) = eqb (f n) (g n) && agree f g n
-
-pub agree-at : (f g : ℕ → ℕ) (n : ℕ) → agree f g n ≡ true → (k : ℕ) → k < n → f k ≡ g k
-agree-at f g zero t k h = absurd (omega arith)
-agree-at f g (suc n) t k h = let a = and-true (eqb (f n) (g n)) (agree f g n) t in go (eqb k n) refl (a .0) (agree-at f g n (a .1))
-  where
-    go : (y : Bool) → eqb k n ≡ y → eqb (f n) (g n) ≡ true → ((k : ℕ) → k < n → f k ≡ g k) → f k ≡ g k
-    go true d e below = rw (eqb-true k n d) (eqb-true (f n) (g n) e)
-    go false d e below = let q = eqb-false k n d in below k (omega arith)
 
 -- what is past the table is none of the commands
 past : (c k : ℕ) → 8 ≤ c → k < 8 → eqb c k ≡ false

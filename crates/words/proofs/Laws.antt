@@ -11,7 +11,7 @@ use lib.Dec.{lit<, eqb, leb, ltb}
 use lib.Arith.{lt-one}
 use lib.Pow.{pow-pos, pow-lt, pow-mono, pow-add, shl-lt, shl-exact, shr-lt, shr-shr, ones-lt, high-ones}
 use lib.Bits.{bitAnd, bitOr, or-lt, and-le-l, and-high, and-step, and-shr, and-mod, or-add-and}
-use borrow.Author.Tests.{lt-ltb, ltb-true, ltb-false, leb-true, eq-eqb, ne-eqb}
+use borrow.Author.Tests.{lt-ltb, ltb-true, ltb-false, leb-true, eq-eqb, ne-eqb, eqb-true, eqb-false}
 use Rattle.words.specs.Word.{if_then_else_, bitOf, isSet, rose, without, withoutBits, withoutBit, withBit}
 
 -- a bit is 0 or 1
@@ -245,3 +245,16 @@ and-true a b = and-eq-true-iff a b .0
 -- two bounds that are tested together
 pub both-le : {a b c d : ℕ} → leb a b && leb c d ≡ true → (a ≤ b) × (c ≤ d)
 both-le {a} {b} {c} {d} e = let w = and-true (leb a b) (leb c d) e in (leb-true a b (w .0), leb-true c d (w .1))
+
+-- f and g are equal at each number below n
+abbrev pub agree : (ℕ → ℕ) → (ℕ → ℕ) → ℕ → Bool
+agree f g zero = true
+agree f g (suc n) = eqb (f n) (g n) && agree f g n
+
+pub agree-at : (f g : ℕ → ℕ) (n : ℕ) → agree f g n ≡ true → (k : ℕ) → k < n → f k ≡ g k
+agree-at f g zero t k h = absurd (omega arith)
+agree-at f g (suc n) t k h = let a = and-true (eqb (f n) (g n)) (agree f g n) t in go (eqb k n) refl (a .0) (agree-at f g n (a .1))
+  where
+    go : (y : Bool) → eqb k n ≡ y → eqb (f n) (g n) ≡ true → ((k : ℕ) → k < n → f k ≡ g k) → f k ≡ g k
+    go true d e below = rw (eqb-true k n d) (eqb-true (f n) (g n) e)
+    go false d e below = let q = eqb-false k n d in below k (omega arith)
