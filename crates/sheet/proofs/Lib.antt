@@ -1,4 +1,5 @@
 pub mod SplitLaws
+pub mod WordLaws
 pub mod LineLaws
 pub mod NumberLaws
 pub mod RequestLaws

@@ -5,6 +5,7 @@ mod lines;
 mod numbers;
 mod quick;
 mod requests;
+mod search;
 
 pub use fields::count_fields;
 pub use fields::field;

@@ -6,6 +6,7 @@ ghost use Rattle.sheet.specs.Split.{indexOf, between};
 ghost use Rattle.sheet.specs.Lines.{foundLF, wellSized, lineAt};
 use crate::Found;
 use crate::Line;
+use crate::search::lf_from;
 
 pub const LF: u8 = b'\n';
 
@@ -30,7 +31,7 @@ pub fn index_from(s: &[u8], at: usize, b: u8) -> usize
 pub fn find_lf(file: &[u8], at: usize) -> Found
     ensures { λ r. ⌜ r ≡ foundLF (now (file .entry)) at ⌝ }
 {
-    let i = index_from(file, at, LF);
+    let i = lf_from(file, at);
     if i < file.len() {
         Found::At(i)
     } else {
