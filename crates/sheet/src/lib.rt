@@ -10,6 +10,7 @@ mod search;
 pub use fields::count_fields;
 pub use fields::field;
 pub use lines::find_lf;
+pub use lines::index_from;
 pub use lines::next_line;
 pub use lines::part;
 pub use numbers::read_number;

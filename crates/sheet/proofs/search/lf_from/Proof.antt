@@ -31,7 +31,7 @@ loop-again c =
     let n = c .before .before .before .before .before .word-places .ensures in
     let t = c .before .before .before .loop-test .taken in
     let none = rw (c .before .before .word-at .ensures) at (sym (c .before .has-lf .ensures) ∙ c .if1 .left) in
-    l .inv ∙ index-skip LF s (l .i) 8 (omega arith) none
+    omega (arith, l .inv, index-skip LF s (l .i) 8 (omega arith) none)
 
 returns : tie.Need-returns Inv-loop μ-loop
 returns c = c .index-from .ensures ∙ sym (c .before .before .loop .inv)
