@@ -11,6 +11,7 @@
 //! * [`book`]: the book of commands, kept from a motor's history alone;
 //! * [`totals`]: the totals of a sitting, counted from the book;
 //! * [`paper`]: the sheets of the paper and a few worked by hand;
+//! * [`ends`]: files with their LFs at each place;
 //! * [`story`]: random files, whole and damaged, repeatable from a seed;
 //! * [`tally`]: what happened in the files, by the model's count;
 //! * [`outside`]: running a program on a file;
@@ -28,6 +29,7 @@
 //! Exit 0: all agree; 1: a difference; 2: it could not be run.
 
 pub mod book;
+pub mod ends;
 pub mod fast;
 pub mod file;
 pub mod outside;

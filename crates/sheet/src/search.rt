@@ -8,9 +8,10 @@ ghost use Rattle.sheet.specs.EightBytes.{bytesOf, contains};
 use crate::lines::LF;
 use crate::lines::index_from;
 
-// In each byte of a word: an LF, all bits but the highest, all bits.
+// An LF in each byte of a word.
 const LFS: u64 = 0x0A0A_0A0A_0A0A_0A0A;
 
+// The low seven bits of each byte.
 const LOW_BITS: u64 = 0x7F7F_7F7F_7F7F_7F7F;
 
 const ALL_BITS: u64 = 0xFFFF_FFFF_FFFF_FFFF;
@@ -41,15 +42,16 @@ fn word_at(s: &[u8], i: usize) -> u64
     )
 }
 
-// Whether one of a word's eight bytes is LF. A byte's low bits and those of an LF differ unless the byte is LF or LF with
-// its highest bit; if they differ, the sum has the highest bit, and it never runs into the next byte.
+// Whether one of a word's eight bytes is LF, all tested at once. In each byte the low seven bits become 0 exactly if they are
+// those of LF. Adding 127 sets the byte's highest bit exactly if they are not, and never carries into the next byte. `| w` sets
+// it also in a byte that has it already, as 0x8A does. So a byte ends with all bits set exactly if it is not LF.
 fn has_lf(w: u64) -> bool
     ensures { λ r. ⌜ r ≡ contains LF (bytesOf 8 w) ⌝ }
 {
     ((((w & LOW_BITS) ^ LFS) + LOW_BITS) | w | LOW_BITS) != ALL_BITS
 }
 
-// How many places of n have eight bytes from them on.
+// From how many of n places on there are eight bytes.
 fn word_places(n: usize) -> usize
     ensures { λ r. ⌜ r ≡ n - 7 ⌝ }
 {

@@ -1,6 +1,8 @@
 //! `check PROGRAM [--files N] [--seed S]`: the program against the model, on
-//! the sheets of the paper and then on random files.
+//! the sheets of the paper, on files with their line ends at each place, and
+//! then on random files.
 
+use motor_model::ends;
 use motor_model::file::{run, run_watched};
 use motor_model::outside::{legible, Outcome, Program, TOO_SLOW};
 use motor_model::paper::{more_sheets, sheets};
@@ -108,6 +110,19 @@ fn check_sheets(program: &Program) -> bool {
     good
 }
 
+/// The files with line ends at each place: how many there are, and how many of
+/// them have no refused line; or the first that differs.
+fn check_ends(program: &Program) -> Result<(usize, usize), Vec<u8>> {
+    let files = ends::files(sheets()[0].file.as_bytes());
+    if let Some(file) = files.iter().find(|file| differs(program, file)) {
+        return Err(file.clone());
+    }
+    let whole = files
+        .iter()
+        .filter(|file| !run(file).starts_with(b"E,") && !run(file).windows(3).any(|w| w == b"\nE,"));
+    Ok((files.len(), whole.count()))
+}
+
 /// The random files, on all processors; the first that differs, if any.
 fn check_files(program: &Program, wish: &Wish, total: &mut Tally) -> Option<u64> {
     let next = AtomicU64::new(0);
@@ -160,6 +175,13 @@ fn main() -> ExitCode {
     if !check_sheets(&program) {
         println!("the sheets differ");
         return ExitCode::from(1);
+    }
+    match check_ends(&program) {
+        Ok((all, whole)) => println!("line ends: {all} files agree, {whole} of them without a refused line"),
+        Err(file) => {
+            report(&program, "a file of line ends", &file);
+            return ExitCode::from(1);
+        }
     }
     let mut tally = Tally::default();
     if let Some(index) = check_files(&program, &wish, &mut tally) {
