@@ -1,5 +1,6 @@
 #!/usr/bin/env bash
-# Runs the program against the model written apart: the model's own tests, the sheets, and random files.
+# Runs the program against the model written apart: the model's own tests, the sheets,
+# files with line ends at each of the first places, and random files.
 set -euo pipefail
 cd "$(dirname "$0")/.."
 program=$PWD/target/bin/bench

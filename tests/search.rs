@@ -107,7 +107,8 @@ fn test() -> Result<Tested, String> {
             }
         }
     }
-    // Each pair of bytes side by side, so that any carry between them shows.
+    // Each pair of bytes side by side, so that a carry that hides an LF shows. (A carry that raises a
+    // false alarm changes no answer.)
     for low in 0..=255 {
         for high in 0..=255 {
             for place in [0, 3, 6] {

@@ -11,7 +11,7 @@
 //! * [`book`]: the book of commands, kept from a motor's history alone;
 //! * [`totals`]: the totals of a sitting, counted from the book;
 //! * [`paper`]: the sheets of the paper and a few worked by hand;
-//! * [`ends`]: files with their LFs at each place;
+//! * [`ends`]: files with an LF at each of the first places;
 //! * [`story`]: random files, whole and damaged, repeatable from a seed;
 //! * [`tally`]: what happened in the files, by the model's count;
 //! * [`outside`]: running a program on a file;

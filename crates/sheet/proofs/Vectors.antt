@@ -3,12 +3,13 @@ use Prim.Native.Nat.{ℕ, _+_, _*_}
 use mathlib.Core.Path.{_≡_, refl}
 use mathlib.Core.List.{List, [], _∷_, _++_}
 use lib.ListN.{replicate}
-use Rattle.sheet.specs.EightBytes.{bytesOf}
+use Rattle.sheet.specs.Split.{LF}
+use Rattle.sheet.specs.WordBytes.{bytesOf}
 use Rattle.sheet.specs.Number.{numberOf}
 use Rattle.sheet.specs.Lines.{lineAt}
 use Rattle.sheet.specs.Grammar.{requestOf, requestsOf}
 use Rattle.sheet.specs.Opened.{opened}
-use Rattle.sheet.proofs.WordLaws.{marks}
+use Rattle.sheet.proofs.WordLaws.{eachByte, marks}
 use Rattle.sheet.specs.declared.Line.the-variants.{Until, Refused as Faulty}
 use Rattle.sheet.specs.declared.Number.the-variants.{Value, Refused as NoNumber}
 use Rattle.sheet.specs.declared.Request.the-variants.{Motor, Input, Scan, Refused}
@@ -109,26 +110,26 @@ word : List ℕ → ℕ
 word [] = 0
 word (b ∷ bs) = word bs * 256 + b
 
--- the bytes of a word that the test leaves marked, each with 127 where it takes the byte for LF and with 255 otherwise
+-- what the test makes of each byte: 127 where it takes it for LF, otherwise 255
 marked : List ℕ → List ℕ
-marked bs = bytesOf 8 (marks 723401728380766730 9187201950435737471 (word bs))
+marked bs = bytesOf 8 (marks (eachByte 8 LF) (eachByte 8 127) (word bs))
 
 -- 0x0B after LF, and before it
 lf-and-next : marked (10 ∷ 11 ∷ 10 ∷ 11 ∷ 11 ∷ 11 ∷ 11 ∷ 10 ∷ []) ≡ 127 ∷ 255 ∷ 127 ∷ 255 ∷ 255 ∷ 255 ∷ 255 ∷ 127 ∷ []
-unfolding marked word bytesOf
+unfolding marked word eachByte bytesOf
 lf-and-next = refl
 
--- 0x8A, which is LF but for its highest bit, alone and beside LF
+-- 0x8A, which is LF but for its highest bit, beside LF
 lf-with-high-bit : marked (138 ∷ 138 ∷ 138 ∷ 10 ∷ 138 ∷ 138 ∷ 138 ∷ 138 ∷ []) ≡ 255 ∷ 255 ∷ 255 ∷ 127 ∷ 255 ∷ 255 ∷ 255 ∷ 255 ∷ []
-unfolding marked word bytesOf
+unfolding marked word eachByte bytesOf
 lf-with-high-bit = refl
 
 -- 0xFF and 0, which carry and borrow most, around LF and around its neighbours 9 and 11
 carries : marked (255 ∷ 10 ∷ 255 ∷ 9 ∷ 255 ∷ 11 ∷ 0 ∷ 10 ∷ []) ≡ 255 ∷ 127 ∷ 255 ∷ 255 ∷ 255 ∷ 255 ∷ 255 ∷ 127 ∷ []
-unfolding marked word bytesOf
+unfolding marked word eachByte bytesOf
 carries = refl
 
 -- bytes that differ from LF in one bit each
 one-bit-off : marked (11 ∷ 8 ∷ 14 ∷ 2 ∷ 26 ∷ 42 ∷ 74 ∷ 138 ∷ []) ≡ replicate 8 255
-unfolding marked word bytesOf
+unfolding marked word eachByte bytesOf
 one-bit-off = refl

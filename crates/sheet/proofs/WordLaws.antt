@@ -13,20 +13,20 @@ use borrow.Author.Tests.{eq-eqb, ne-eqb, eqb-true, eqb-false}
 use Rattle.words.specs.Word.{if_then_else_}
 use Rattle.words.proofs.Laws.{agree-at}
 use Rattle.sheet.specs.Split.{LF, indexOf, between}
-use Rattle.sheet.specs.EightBytes.{bytesOf, contains}
+use Rattle.sheet.specs.WordBytes.{bytesOf, contains}
 use Rattle.sheet.proofs.SplitLaws.{index-append}
 
--- n bytes that are all k
+-- a word of n bytes, all k
 unfoldable pub eachByte : ℕ → ℕ → ℕ
 eachByte zero k = 0
 eachByte (suc n) k = eachByte n k * 256 + k
 
--- what the test makes of n bytes, `low` and `lf` being a word of 127s and one of LFs
+-- what the test makes of the bytes of w, `lf` being a word of LFs and `low` one of 127s
 abbrev pub marks : (lf low w : ℕ) → ℕ
 marks lf low w = bitOr (bitOr (bitXor (bitAnd w low) lf + low) w) low
 
 -- one byte: all bits are set exactly if it is not LF
-pub byte-mark : (b : ℕ) → b < 256 → marks LF 127 b ≡ (if eqb b LF then 127 else 255)
+byte-mark : (b : ℕ) → b < 256 → marks LF 127 b ≡ (if eqb b LF then 127 else 255)
 unfolding if_then_else_
 byte-mark = agree-at (marks LF 127) (λ b. if eqb b LF then 127 else 255) 256 refl
 
@@ -52,7 +52,7 @@ marks-block lf low w b h =
 
 -- ---- the test of n bytes
 
--- w has n bytes
+-- w has at most n bytes
 unfoldable pub fits : ℕ → ℕ → Type 0
 fits zero w = w ≡ 0
 fits (suc n) w = fits n (w / 256)
@@ -122,7 +122,7 @@ module _ (s : List ℕ) (i : ℕ) where
 
 -- ---- bytes without b
 
-pub none-contained : (b : ℕ) (p : List ℕ) → contains b p ≡ false → indexOf b p ≡ length p
+none-contained : (b : ℕ) (p : List ℕ) → contains b p ≡ false → indexOf b p ≡ length p
 unfolding contains indexOf if_then_else_
 none-contained b [] e = refl
 none-contained b (x ∷ p) e = go (eqb x b) e (none-contained b p)

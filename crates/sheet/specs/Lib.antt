@@ -1,5 +1,5 @@
 pub mod Split
-pub mod EightBytes
+pub mod WordBytes
 pub mod Lines
 pub mod Number
 pub mod Grammar

@@ -4,7 +4,7 @@ ghost use Prim.Native.Nat.{_+_, _-_, _≤_};
 ghost use mathlib.Core.List.{[], _∷_};
 ghost use lib.ListN.{length, drop};
 ghost use Rattle.sheet.specs.Split.{LF, indexOf, between};
-ghost use Rattle.sheet.specs.EightBytes.{bytesOf, contains};
+ghost use Rattle.sheet.specs.WordBytes.{bytesOf, contains};
 use crate::lines::LF;
 use crate::lines::index_from;
 
@@ -44,14 +44,15 @@ fn word_at(s: &[u8], i: usize) -> u64
 
 // Whether one of a word's eight bytes is LF, all tested at once. In each byte the low seven bits become 0 exactly if they are
 // those of LF. Adding 127 sets the byte's highest bit exactly if they are not, and never carries into the next byte. `| w` sets
-// it also in a byte that has it already, as 0x8A does. So a byte ends with all bits set exactly if it is not LF.
+// it also in a byte that has it already, as 0x8A does, and `| LOW_BITS` sets the others. So a byte ends with all bits set exactly
+// if it is not LF.
 fn has_lf(w: u64) -> bool
     ensures { λ r. ⌜ r ≡ contains LF (bytesOf 8 w) ⌝ }
 {
     ((((w & LOW_BITS) ^ LFS) + LOW_BITS) | w | LOW_BITS) != ALL_BITS
 }
 
-// From how many of n places on there are eight bytes.
+// How many of n places have eight bytes from there on.
 fn word_places(n: usize) -> usize
     ensures { λ r. ⌜ r ≡ n - 7 ⌝ }
 {

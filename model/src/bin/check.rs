@@ -1,6 +1,6 @@
 //! `check PROGRAM [--files N] [--seed S]`: the program against the model, on
-//! the sheets of the paper, on files with their line ends at each place, and
-//! then on random files.
+//! the sheets of the paper, on files with line ends at each of the first
+//! places, and then on random files.
 
 use motor_model::ends;
 use motor_model::file::{run, run_watched};
@@ -110,17 +110,17 @@ fn check_sheets(program: &Program) -> bool {
     good
 }
 
-/// The files with line ends at each place: how many there are, and how many of
-/// them have no refused line; or the first that differs.
+/// The files with line ends at each of the first places: how many there are, and
+/// how many of them have no refused line; or the first that differs.
 fn check_ends(program: &Program) -> Result<(usize, usize), Vec<u8>> {
     let files = ends::files(sheets()[0].file.as_bytes());
     if let Some(file) = files.iter().find(|file| differs(program, file)) {
         return Err(file.clone());
     }
-    let whole = files
-        .iter()
-        .filter(|file| !run(file).starts_with(b"E,") && !run(file).windows(3).any(|w| w == b"\nE,"));
-    Ok((files.len(), whole.count()))
+    let refused = |print: &[u8]| print.split(|byte| *byte == b'\n').any(|line| line.starts_with(b"E,"));
+    let whole = files.iter().filter(|file| !refused(&run(file))).count();
+    assert!(whole > 0, "every file of line ends is refused, so that none shows where they are");
+    Ok((files.len(), whole))
 }
 
 /// The random files, on all processors; the first that differs, if any.

@@ -5,17 +5,19 @@ use native.Mathlib.Nat.{lt-of-le-of-lt}
 use native.Mathlib.Omega.{arith}
 use lib.Dec.{lit<}
 use lib.Bits.{bitAnd, xor-lt, and-le-r}
+use Rattle.sheet.specs.Split.{LF}
 use Rattle.sheet.proofs.WordLaws.{eachByte, lf-test, word-fits}
 use Rattle.sheet.proofs.search.has_lf.Statement.{statement}
 use Rattle.sheet.proofs.search.has_lf.Tie as tie
 
 -- what is added has no highest bit, nor has what it is added to
 add-result : tie.Need-add-result
+unfolding eachByte
 add-result c =
-    let low : ℕ = 9187201950435737471 in
+    let low : ℕ = eachByte 8 127 in
     let m : ℕ = bitAnd (c .args .w) low in
     let h : m < 2 ^ 63 = lt-of-le-of-lt (and-le-r (c .args .w) low) (lit< tt) in
-    record { fits = omega (arith, xor-lt 63 m 723401728380766730 h (lit< tt)) }
+    record { fits = omega (arith, xor-lt 63 m (eachByte 8 LF) h (lit< tt)) }
 
 returns : tie.Need-returns
 unfolding eachByte

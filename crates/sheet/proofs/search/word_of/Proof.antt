@@ -2,7 +2,7 @@ use Prim.Native.Nat.{ℕ, _+_, _*_}
 use mathlib.Core.Path.{_≡_, refl}
 use native.Mathlib.Omega.{arith}
 use borrow.Author.Needs.{needs}
-use Rattle.sheet.specs.EightBytes.{bytesOf}
+use Rattle.sheet.specs.WordBytes.{bytesOf}
 use Rattle.sheet.proofs.WordLaws.{bytes-more}
 use Rattle.sheet.proofs.search.word_of.Statement.{statement}
 use Rattle.sheet.proofs.search.word_of.Tie as tie
