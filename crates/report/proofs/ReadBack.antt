@@ -12,8 +12,10 @@ use borrow.Author.Tests.{le-leb, lt-leb}
 use Rattle.words.proofs.Laws.{and-true}
 use Rattle.sheet.specs.Split.{indexOf}
 use Rattle.sheet.specs.Number.{largest, isDigit, allDigits, valueFrom, numberOf}
+use Rattle.sheet.specs.WordField.{wordOf}
 use Rattle.sheet.specs.declared.Number.the-variants.{Value}
 use Rattle.sheet.proofs.NumberLaws.{value-grows, digit-range, all-snoc, value-more, digits-free, Spells, spells-number, number-spells}
+use Rattle.sheet.proofs.WordFieldLaws.{number-word}
 use Rattle.report.specs.Print.{digitsOf, decimal}
 use Rattle.report.proofs.PrintLaws.{digits-less, digits-more}
 
@@ -129,6 +131,10 @@ digits-spelt (suc k) n s p h =
 pub read-back : (n : ℕ) → n ≤ largest → numberOf (decimal n) ≡ Value n
 unfolding decimal
 read-back n h = spells-number (spells-digits 9 n (omega arith)) h
+
+-- in a word field too
+pub word-back : (n : ℕ) → n ≤ largest → wordOf (decimal n) ≡ Value n
+word-back n h = number-word (decimal n) n (read-back n h)
 
 pub print-back : (field : List ℕ) (n : ℕ) → numberOf field ≡ Value n → field ≡ decimal n
 unfolding decimal

@@ -18,7 +18,7 @@ use Rattle.sheet.proofs.PlaceLaws.{motor-request, input-request, scan-request}
 use Rattle.report.specs.Print.{decimal, afterComma, afterCommas, lineOf}
 use Rattle.report.specs.Written.{written}
 use Rattle.report.proofs.PrintLaws.{line-length}
-use Rattle.report.proofs.ReadBack.{decimal-free, read-back}
+use Rattle.report.proofs.ReadBack.{decimal-free, read-back, word-back}
 
 -- numbers that a field can say
 abbrev pub InRange : List ℕ → Type 0
@@ -84,11 +84,11 @@ written-back (Motor number ops1 ops2 w u) h s =
     let ns : List ℕ = number ∷ ops1 ∷ ops2 ∷ w ∷ u ∷ [] in
     line-request letter-M ns s (omega arith) h (omega arith)
     ∙ rw (motor-request _ _ _ _ _ number ops1 ops2 w u (fields-free letter-M ns (omega arith) h comma (omega arith)) (read-back number (h .0))
-    (read-back ops1 (h .1 .0)) (read-back ops2 (h .1 .1 .0)) (read-back w (h .1 .1 .1 .0)) (read-back u (h .1 .1 .1 .1 .0)))
+    (word-back ops1 (h .1 .0)) (word-back ops2 (h .1 .1 .0)) (read-back w (h .1 .1 .1 .0)) (read-back u (h .1 .1 .1 .1 .0)))
 written-back (Input number word) h s =
     let ns : List ℕ = number ∷ word ∷ [] in
     line-request letter-I ns s (omega arith) h (omega arith)
-    ∙ rw (input-request _ _ number word (fields-free letter-I ns (omega arith) h comma (omega arith)) (read-back number (h .0)) (read-back word (h .1 .0)))
+    ∙ rw (input-request _ _ number word (fields-free letter-I ns (omega arith) h comma (omega arith)) (read-back number (h .0)) (word-back word (h .1 .0)))
 written-back (Scan period) h s =
     let ns : List ℕ = period ∷ [] in
     line-request letter-S ns s (omega arith) h (omega arith)

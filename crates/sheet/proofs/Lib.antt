@@ -2,6 +2,7 @@ pub mod SplitLaws
 pub mod WordLaws
 pub mod LineLaws
 pub mod NumberLaws
+pub mod WordFieldLaws
 pub mod RequestLaws
 pub mod PlaceLaws
 pub mod Vectors

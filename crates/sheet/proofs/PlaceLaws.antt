@@ -14,15 +14,19 @@ use Rattle.words.specs.Word.{if_then_else_}
 use Rattle.sheet.specs.Split.{LF, comma, joined, indexOf, between, fieldOf, fieldCount}
 use Rattle.sheet.specs.Lines.{longest, line, wellSized, textOf, firstLine, lineAt}
 use Rattle.sheet.specs.Number.{largest, isDigit, allDigits, valueFrom, digitsNumber, leadingZero, numberOf}
-use Rattle.sheet.specs.Grammar.{letter-M, letter-I, letter-S, letterOf, isKind, numberIn, withValue, motorFrom, inputFrom, scanFrom, motorOf, inputOf, scanOf, requestOf, takenAt, nextAt}
-use Rattle.sheet.specs.Places.{isAt, isDigitAt, beginsWith, endsLine, NumberAt}
+use Rattle.sheet.specs.WordField.{wordOf}
+use Rattle.sheet.specs.Grammar.{letter-M, letter-I, letter-S, letterOf, isKind, numberIn, wordIn, withValue, motorFrom, inputFrom, scanFrom, motorOf, inputOf, scanOf, requestOf, takenAt, nextAt}
+use Rattle.sheet.specs.Places.{isAt, isDigitAt, beginsWith, endsLine, SaidAt, Read}
+use Rattle.sheet.specs.declared.quick.Figure.{Figure}
+use Rattle.sheet.specs.declared.quick.Figure.the-variants.{Number as Said, Nothing}
 use Rattle.sheet.specs.declared.Number.the-variants.{Value}
 use Rattle.sheet.specs.declared.Line.the-variants.{Until}
 use Rattle.sheet.specs.declared.Request.the-variants.{Motor, Input, Scan}
 use Rattle.sheet.specs.declared.Next.the-variants.{Taken}
-use Rattle.sheet.proofs.SplitLaws.{Free, free-none, free-more, split-joined, free-joined}
+use Rattle.sheet.proofs.SplitLaws.{index-le, Free, free-none, free-more, split-joined, free-joined}
 use Rattle.sheet.proofs.LineLaws.{lines-part}
-use Rattle.sheet.proofs.NumberLaws.{digit-range, all-snoc, value-more, first-digit, digits-free, spells-number, number-spells}
+use Rattle.sheet.proofs.NumberLaws.{digit-range, all-snoc, value-more, first-digit, spells-number}
+use Rattle.sheet.proofs.WordFieldLaws.{number-word, word-some, word-free}
 
 -- ---- a byte at a place
 
@@ -108,7 +112,7 @@ module _ (file : List ℕ) (at : ℕ) where
       }
 
   -- a 0 alone
-  pub zero-number : isAt file at 48 ≡ true → NumberAt file at 0 (at + 1)
+  pub zero-number : isAt file at 48 ≡ true → SaidAt numberOf file at 0 (at + 1)
   unfolding between numberOf digitsNumber leadingZero allDigits isDigit valueFrom if_then_else_
   zero-number e =
       let n : at + 1 - at ≡ 1 = omega arith in
@@ -116,7 +120,7 @@ module _ (file : List ℕ) (at : ℕ) where
 
   -- digits of which the first is no 0
   pub digits-number : {value i : ℕ} → Digits file at value i → isAt file at 48 ≡ false → (value ≡ 0 → ⊥) → value ≤ largest
-      → NumberAt file at value i
+      → SaidAt numberOf file at value i
   digits-number {value} {i} d z n h =
       let s = some-digit (between at i file) (λ e. n (sym (d .says) ∙ e)) in
       let l = between-length file at i (d .within) in
@@ -128,25 +132,51 @@ module _ (file : List ℕ) (at : ℕ) where
         says = spells-number (record { some = s; digits = d .digits; value = d .says; plain = λ k. omega (arith, o) }) h;
       }
 
+-- a number at a place is a word there
+pub number-said : {file : List ℕ} {at value end : ℕ} → SaidAt numberOf file at value end → SaidAt wordOf file at value end
+number-said p = record { within = p .within; says = number-word _ _ (p .says) }
+
+pub read-said : (file : List ℕ) (at : ℕ) (r : Figure) → Read numberOf file at r → Read wordOf file at r
+unfolding Read
+read-said file at (Said value end) p = number-said p
+read-said file at Nothing p = tt
+
 -- the field that says it, and what follows
 pub record Parted (file : List ℕ) (at end : ℕ) : Type 0 where
   pub further : at < end
   pub size : length (between at end file) ≡ end - at
-  pub digits : allDigits (between at end file) ≡ true
+  pub free : (b : ℕ) → b < 48 → indexOf b (between at end file) ≡ length (between at end file)
   pub parts : drop at file ≡ between at end file ++ drop end file
 
-pub parted : {file : List ℕ} {at value end : ℕ} → NumberAt file at value end → Parted file at end
+pub parted : {file : List ℕ} {at value end : ℕ} → SaidAt wordOf file at value end → Parted file at end
 unfolding between
 parted {file} {at} {value} {end} p =
-    let s = number-spells (between at end file) value (p .says) .0 in
+    let s = word-some (between at end file) value (p .says) in
     let l = length-take (end - at) (drop at file) in
-    let f : at < end = omega (arith, s .some) in
+    let f : at < end = omega arith in
     let m : at + (end - at) ≡ end = omega arith in
     record {
       further = f;
       size = between-length file at end (omega (arith, p .within));
-      digits = s .digits;
+      free = λ b h. word-free b (between at end file) value h (p .says);
       parts = sym (take-append-drop (end - at) (drop at file)) ∙ rw (drop-drop (end - at) at file, m);
+    }
+
+-- a word up to the next LF
+pub line-said : (file : List ℕ) (at : ℕ) {value end : ℕ} → end ≡ at + indexOf LF (drop at file) → wordOf (between at end file) ≡ Value value
+    → SaidAt wordOf file at value end
+unfolding between
+line-said file at {value} {end} e w =
+    record {
+      within =
+          omega (
+            arith,
+            word-some (between at end file) value w,
+            length-take (end - at) (drop at file),
+            index-le LF (drop at file),
+            length-drop at file,
+          );
+      says = w;
     }
 
 -- ---- a line, by its beginning and its end
@@ -198,43 +228,43 @@ unfolding requestOf isKind letterOf fieldOf fieldCount scanOf scanFrom numberIn 
 scan-request d value f e = rw (split-joined f, e)
 
 pub input-request : (d g : List ℕ) (number word : ℕ) → Free comma ((letter-I ∷ []) ∷ d ∷ g ∷ []) → numberOf d ≡ Value number
-    → numberOf g ≡ Value word → requestOf (joined comma ((letter-I ∷ []) ∷ d ∷ g ∷ [])) ≡ Input number word
-unfolding requestOf isKind letterOf fieldOf fieldCount inputOf inputFrom numberIn withValue if_then_else_
+    → wordOf g ≡ Value word → requestOf (joined comma ((letter-I ∷ []) ∷ d ∷ g ∷ [])) ≡ Input number word
+unfolding requestOf isKind letterOf fieldOf fieldCount inputOf inputFrom numberIn wordIn withValue if_then_else_
 input-request d g number word f e h = rw (split-joined f, e, h)
 
 pub motor-request : (a b c d e : List ℕ) (number ops1 ops2 w u : ℕ) → Free comma ((letter-M ∷ []) ∷ a ∷ b ∷ c ∷ d ∷ e ∷ []) → numberOf a ≡ Value number
-    → numberOf b ≡ Value ops1 → numberOf c ≡ Value ops2 → numberOf d ≡ Value w → numberOf e ≡ Value u
+    → wordOf b ≡ Value ops1 → wordOf c ≡ Value ops2 → numberOf d ≡ Value w → numberOf e ≡ Value u
     → requestOf (joined comma ((letter-M ∷ []) ∷ a ∷ b ∷ c ∷ d ∷ e ∷ [])) ≡ Motor number ops1 ops2 w u
-unfolding requestOf isKind letterOf fieldOf fieldCount motorOf motorFrom numberIn withValue if_then_else_
+unfolding requestOf isKind letterOf fieldOf fieldCount motorOf motorFrom numberIn wordIn withValue if_then_else_
 motor-request a b c d e number ops1 ops2 w u f g h i j k = rw (split-joined f, g, h, i, j, k)
 
 comma-no-lf : comma ≡ LF → ⊥
 comma-no-lf e = omega arith
 
 module _ (file : List ℕ) (at : ℕ) where
-  pub scan-next : {value end : ℕ} → beginsWith file at letter-S ≡ true → NumberAt file (at + 2) value end → endsLine file at end ≡ true
+  pub scan-next : {value end : ℕ} → beginsWith file at letter-S ≡ true → SaidAt numberOf file (at + 2) value end → endsLine file at end ≡ true
       → nextAt file at ≡ Taken (Scan value) (end + 1)
-  unfolding joined indexOf isDigit if_then_else_
+  unfolding joined indexOf if_then_else_
   scan-next {value} {end} b n e =
       let d : List ℕ = between (at + 2) end file in
-      let p = parted n in
+      let p = parted (number-said n) in
       let l : List ℕ = joined comma ((letter-S ∷ []) ∷ d ∷ []) in
       let parts : drop at file ≡ l ++ drop end file = begun file at letter-S b ∙ rw (p .parts) in
       let size : length l ≡ end - at = omega (arith, p .size, p .further) in
-      line-next file l at end parts (omega arith) size e (free-joined comma-no-lf (free LF refl refl))
-      ∙ rw (scan-request d value (free comma refl refl) (n .says))
+      line-next file l at end parts (omega arith) size e (free-joined comma-no-lf (free LF (omega arith) refl))
+      ∙ rw (scan-request d value (free comma (omega arith) refl) (n .says))
     where
-      free : (x : ℕ) → isDigit x ≡ false → indexOf x (letter-S ∷ []) ≡ 1 → Free x ((letter-S ∷ []) ∷ between (at + 2) end file ∷ [])
-      free x i f = free-more f (free-more (digits-free x (between (at + 2) end file) i (parted n .digits)) free-none)
+      free : (x : ℕ) → x < 48 → indexOf x (letter-S ∷ []) ≡ 1 → Free x ((letter-S ∷ []) ∷ between (at + 2) end file ∷ [])
+      free x i f = free-more f (free-more (parted (number-said n) .free x i) free-none)
 
-  pub input-next : {number parting word end : ℕ} → beginsWith file at letter-I ≡ true → NumberAt file (at + 2) number parting
-      → isAt file parting comma ≡ true → NumberAt file (parting + 1) word end → endsLine file at end ≡ true
+  pub input-next : {number parting word end : ℕ} → beginsWith file at letter-I ≡ true → SaidAt numberOf file (at + 2) number parting
+      → isAt file parting comma ≡ true → SaidAt wordOf file (parting + 1) word end → endsLine file at end ≡ true
       → nextAt file at ≡ Taken (Input number word) (end + 1)
-  unfolding joined indexOf isDigit if_then_else_
+  unfolding joined indexOf if_then_else_
   input-next {number} {parting} {word} {end} b n c m e =
       let d : List ℕ = between (at + 2) parting file in
       let g : List ℕ = between (parting + 1) end file in
-      let p = parted n in
+      let p = parted (number-said n) in
       let q = parted m in
       let l : List ℕ = joined comma ((letter-I ∷ []) ∷ d ∷ g ∷ []) in
       let k : suc parting ≡ parting + 1 = omega arith in
@@ -242,12 +272,9 @@ module _ (file : List ℕ) (at : ℕ) where
       p .parts ∙ rw (drop-byte file parting comma c, k, q .parts, append-assoc) in
       let parts : drop at file ≡ l ++ drop end file = begun file at letter-I b ∙ rw rest in
       let size : length l ≡ end - at = omega (arith, p .size, p .further, q .size, q .further, length-append d (comma ∷ g)) in
-      line-next file l at end parts (omega arith) size e (free-joined comma-no-lf (free LF refl refl))
-      ∙ rw (input-request d g number word (free comma refl refl) (n .says) (m .says))
+      line-next file l at end parts (omega arith) size e (free-joined comma-no-lf (free LF (omega arith) refl))
+      ∙ rw (input-request d g number word (free comma (omega arith) refl) (n .says) (m .says))
     where
-      free : (x : ℕ) → isDigit x ≡ false → indexOf x (letter-I ∷ []) ≡ 1
+      free : (x : ℕ) → x < 48 → indexOf x (letter-I ∷ []) ≡ 1
           → Free x ((letter-I ∷ []) ∷ between (at + 2) parting file ∷ between (parting + 1) end file ∷ [])
-      free x i f =
-          free-more f
-          (free-more (digits-free x (between (at + 2) parting file) i (parted n .digits))
-          (free-more (digits-free x (between (parting + 1) end file) i (parted m .digits)) free-none))
+      free x i f = free-more f (free-more (parted (number-said n) .free x i) (free-more (parted m .free x i) free-none))

@@ -9,7 +9,7 @@ use lib.ListN.{length, drop}
 use Rattle.sheet.specs.Split.{between}
 use Rattle.sheet.specs.Lines.{Text, faulty, linesOf}
 use Rattle.words.specs.Word.{if_then_else_}
-use Rattle.sheet.specs.Grammar.{letter-M, letter-I, letter-S, isKind, numberIn, withValue, motorFrom, inputFrom, scanFrom, motorOf, inputOf, scanOf, requestOf, textRequest, requestsOf, takenAt, nextAt}
+use Rattle.sheet.specs.Grammar.{letter-M, letter-I, letter-S, isKind, numberIn, wordIn, withValue, motorFrom, inputFrom, scanFrom, motorOf, inputOf, scanOf, requestOf, textRequest, requestsOf, takenAt, nextAt}
 use Rattle.sheet.specs.declared.Number.{Number}
 use Rattle.sheet.specs.declared.Number.the-variants.{Value, Refused as NoNumber}
 use Rattle.sheet.specs.declared.Line.{Line}
@@ -80,12 +80,12 @@ pub done : (file : List ℕ) (at : ℕ) → nextAt file at ≡ Done → length f
 unfolding nextAt
 done file at e = done-of (stands file at) e
 
--- ---- a request that is not refused says what its line has: its kind, and the number in each field
+-- ---- a request that is not refused says what its line has: its kind, and the number or word in each field
 
 pub data Says (l : List ℕ) : Request → Type 0 where
-  motor : {number ops1 ops2 w u : ℕ} → isKind letter-M 6 l ≡ true → numberIn l 1 ≡ Value number → numberIn l 2 ≡ Value ops1
-      → numberIn l 3 ≡ Value ops2 → numberIn l 4 ≡ Value w → numberIn l 5 ≡ Value u → Says l (Motor number ops1 ops2 w u)
-  input : {number word : ℕ} → isKind letter-I 3 l ≡ true → numberIn l 1 ≡ Value number → numberIn l 2 ≡ Value word → Says l (Input number word)
+  motor : {number ops1 ops2 w u : ℕ} → isKind letter-M 6 l ≡ true → numberIn l 1 ≡ Value number → wordIn l 2 ≡ Value ops1
+      → wordIn l 3 ≡ Value ops2 → numberIn l 4 ≡ Value w → numberIn l 5 ≡ Value u → Says l (Motor number ops1 ops2 w u)
+  input : {number word : ℕ} → isKind letter-I 3 l ≡ true → numberIn l 1 ≡ Value number → wordIn l 2 ≡ Value word → Says l (Input number word)
   scan : {period : ℕ} → isKind letter-S 2 l ≡ true → numberIn l 1 ≡ Value period → Says l (Scan period)
   nothing : Says l Refused
 
@@ -93,7 +93,7 @@ pub says : (l : List ℕ) → Says l (requestOf l)
 unfolding requestOf motorOf inputOf scanOf motorFrom inputFrom scanFrom withValue if_then_else_
 says l = go (isKind letter-M 6 l) refl (isKind letter-I 3 l) refl (isKind letter-S 2 l) refl
   where
-    go-motor : isKind letter-M 6 l ≡ true → (a : Number) → numberIn l 1 ≡ a → (b : Number) → numberIn l 2 ≡ b → (c : Number) → numberIn l 3 ≡ c
+    go-motor : isKind letter-M 6 l ≡ true → (a : Number) → numberIn l 1 ≡ a → (b : Number) → wordIn l 2 ≡ b → (c : Number) → wordIn l 3 ≡ c
         → (d : Number) → numberIn l 4 ≡ d → (e : Number) → numberIn l 5 ≡ e → Says l (motorFrom a b c d e)
     go-motor k (Value a) f (Value b) g (Value c) h (Value d) i (Value e) j = motor k f g h i j
     go-motor k NoNumber f b g c h d i e j = nothing
@@ -102,7 +102,7 @@ says l = go (isKind letter-M 6 l) refl (isKind letter-I 3 l) refl (isKind letter
     go-motor k (Value a) f (Value b) g (Value c) h NoNumber i e j = nothing
     go-motor k (Value a) f (Value b) g (Value c) h (Value d) i NoNumber j = nothing
 
-    go-input : isKind letter-I 3 l ≡ true → (a : Number) → numberIn l 1 ≡ a → (b : Number) → numberIn l 2 ≡ b → Says l (inputFrom a b)
+    go-input : isKind letter-I 3 l ≡ true → (a : Number) → numberIn l 1 ≡ a → (b : Number) → wordIn l 2 ≡ b → Says l (inputFrom a b)
     go-input k (Value a) f (Value b) g = input k f g
     go-input k NoNumber f b g = nothing
     go-input k (Value a) f NoNumber g = nothing
@@ -113,7 +113,7 @@ says l = go (isKind letter-M 6 l) refl (isKind letter-I 3 l) refl (isKind letter
 
     go : (x : Bool) → isKind letter-M 6 l ≡ x → (y : Bool) → isKind letter-I 3 l ≡ y → (z : Bool) → isKind letter-S 2 l ≡ z
         → Says l (if x then motorOf l else if y then inputOf l else if z then scanOf l else Refused)
-    go true e y f z g = go-motor e (numberIn l 1) refl (numberIn l 2) refl (numberIn l 3) refl (numberIn l 4) refl (numberIn l 5) refl
-    go false e true f z g = go-input f (numberIn l 1) refl (numberIn l 2) refl
+    go true e y f z g = go-motor e (numberIn l 1) refl (wordIn l 2) refl (wordIn l 3) refl (numberIn l 4) refl (numberIn l 5) refl
+    go false e true f z g = go-input f (numberIn l 1) refl (wordIn l 2) refl
     go false e false f true g = go-scan g (numberIn l 1) refl
     go false e false f false g = nothing

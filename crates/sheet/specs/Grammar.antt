@@ -8,6 +8,7 @@ use Rattle.words.specs.Word.{if_then_else_}
 use Rattle.sheet.specs.Split.{fieldOf, fieldCount, between}
 use Rattle.sheet.specs.Lines.{Text, line, faulty, linesOf, lineAt}
 use Rattle.sheet.specs.Number.{numberOf}
+use Rattle.sheet.specs.WordField.{wordOf}
 use Rattle.sheet.specs.declared.Line.{Line}
 use Rattle.sheet.specs.declared.Line.the-variants.{Until, Refused as Faulty, End}
 use Rattle.sheet.specs.declared.Number.{Number}
@@ -34,9 +35,12 @@ letterOf field = if eqb (length field) 1 then getD field 0 0 else 0
 unfoldable pub isKind : ℕ → ℕ → List ℕ → Bool
 isKind letter count l = eqb (letterOf (fieldOf l 0)) letter && eqb (fieldCount l) count
 
--- The decimal number that a field of a line says
+-- The number that a field of a line says, and the word
 unfoldable pub numberIn : List ℕ → ℕ → Number
 numberIn l k = numberOf (fieldOf l k)
+
+unfoldable pub wordIn : List ℕ → ℕ → Number
+wordIn l k = wordOf (fieldOf l k)
 
 -- What a number makes; "a field that is not a number" makes a refusal
 unfoldable pub withValue : Number → (ℕ → Request) → Request
@@ -54,13 +58,13 @@ inputFrom a b = withValue a (λ number. withValue b (λ word. Input number word)
 unfoldable pub scanFrom : Number → Request
 scanFrom a = withValue a (λ period. Scan period)
 
--- `M,number,OPS_1,OPS_2,W,U`
+-- `M,number,OPS_1,OPS_2,W,U`; OPS_1 and OPS_2 are words
 unfoldable pub motorOf : List ℕ → Request
-motorOf l = motorFrom (numberIn l 1) (numberIn l 2) (numberIn l 3) (numberIn l 4) (numberIn l 5)
+motorOf l = motorFrom (numberIn l 1) (wordIn l 2) (wordIn l 3) (numberIn l 4) (numberIn l 5)
 
 -- `I,number,word`
 unfoldable pub inputOf : List ℕ → Request
-inputOf l = inputFrom (numberIn l 1) (numberIn l 2)
+inputOf l = inputFrom (numberIn l 1) (wordIn l 2)
 
 -- `S,period`
 unfoldable pub scanOf : List ℕ → Request

@@ -3,8 +3,9 @@ use Rattle.words.specs.Word.{if_then_else_}
 use Rattle.sheet.specs.Split.{joinFirst, split, joined, indexOf, between, fieldOf, fieldCount}
 use Rattle.sheet.specs.Lines.{foundLF, wellSized, textOf, textsOf, linesOf, firstLine, lineAt}
 use Rattle.sheet.specs.Number.{isDigit, allDigits, valueFrom, digitsNumber, leadingZero, numberOf}
-use Rattle.sheet.specs.Grammar.{letterOf, isKind, numberIn, withValue, motorFrom, inputFrom, scanFrom, motorOf, inputOf, scanOf, requestOf, textRequest, requestsOf, takenAt, nextAt, requestRefusal, valuesOf}
+use Rattle.sheet.specs.WordField.{hexDigit, hexFrom, hexNumber, isHex, wordOf, hexDigitOf, hexDigitsOf, hexadecimal}
+use Rattle.sheet.specs.Grammar.{letterOf, isKind, numberIn, wordIn, withValue, motorFrom, inputFrom, scanFrom, motorOf, inputOf, scanOf, requestOf, textRequest, requestsOf, takenAt, nextAt, requestRefusal, valuesOf}
 
 unfoldable pub opened : Type 0
-unfolding if_then_else_ joinFirst split joined indexOf between fieldOf fieldCount foundLF wellSized textOf textsOf linesOf firstLine lineAt isDigit allDigits valueFrom digitsNumber leadingZero numberOf letterOf isKind numberIn withValue motorFrom inputFrom scanFrom motorOf inputOf scanOf requestOf textRequest requestsOf takenAt nextAt requestRefusal valuesOf
+unfolding if_then_else_ joinFirst split joined indexOf between fieldOf fieldCount foundLF wellSized textOf textsOf linesOf firstLine lineAt isDigit allDigits valueFrom digitsNumber leadingZero numberOf hexDigit hexFrom hexNumber isHex wordOf hexDigitOf hexDigitsOf hexadecimal letterOf isKind numberIn wordIn withValue motorFrom inputFrom scanFrom motorOf inputOf scanOf requestOf textRequest requestsOf takenAt nextAt requestRefusal valuesOf
 opened = Unit {0}

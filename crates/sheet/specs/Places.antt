@@ -8,10 +8,11 @@ use lib.ListN.{length, getD}
 use lib.Dec.{eqb, leb, ltb}
 use Rattle.sheet.specs.Split.{LF, comma, between}
 use Rattle.sheet.specs.Lines.{longest}
-use Rattle.sheet.specs.Number.{isDigit, numberOf}
+use Rattle.sheet.specs.Number.{isDigit}
+use Rattle.sheet.specs.declared.Number.{Number}
 use Rattle.sheet.specs.declared.Number.the-variants.{Value}
 use Rattle.sheet.specs.declared.quick.Figure.{Figure}
-use Rattle.sheet.specs.declared.quick.Figure.the-variants.{Number, Nothing}
+use Rattle.sheet.specs.declared.quick.Figure.the-variants.{Number as Said, Nothing}
 
 -- A place has a byte, or a digit
 unfoldable pub isAt : List ℕ → ℕ → ℕ → Bool
@@ -28,12 +29,12 @@ beginsWith file at letter = isAt file at letter && isAt file (at + 1) comma
 unfoldable pub endsLine : List ℕ → ℕ → ℕ → Bool
 endsLine file at end = isAt file end LF && leb (end - at) longest
 
--- The bytes between two places say a number
-pub record NumberAt (file : List ℕ) (at value end : ℕ) : Type 0 where
+-- The bytes between two places say this value, by the meaning of a field: `numberOf` or `wordOf`
+pub record SaidAt (meaning : List ℕ → Number) (file : List ℕ) (at value end : ℕ) : Type 0 where
   pub within : end ≤ length file
-  pub says : numberOf (between at end file) ≡ Value value
+  pub says : meaning (between at end file) ≡ Value value
 
 -- What a reading tells; nothing read tells nothing
-unfoldable pub Read : List ℕ → ℕ → Figure → Type 0
-Read file at (Number value end) = NumberAt file at value end
-Read file at Nothing = Unit {0}
+unfoldable pub Read : (List ℕ → Number) → List ℕ → ℕ → Figure → Type 0
+Read meaning file at (Said value end) = SaidAt meaning file at value end
+Read meaning file at Nothing = Unit {0}

@@ -6,6 +6,7 @@ mod numbers;
 mod quick;
 mod requests;
 mod search;
+mod word_fields;
 
 pub use fields::count_fields;
 pub use fields::field;
@@ -17,6 +18,7 @@ pub use numbers::read_number;
 pub use quick::next_request;
 pub use requests::parse;
 pub use requests::refusal;
+pub use word_fields::read_word;
 
 // Where a search came to.
 pub enum Found {

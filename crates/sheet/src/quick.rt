@@ -3,22 +3,28 @@
 ghost use mathlib.Core.Path.{_≡_};
 ghost use mathlib.Core.Bool.{true};
 ghost use Prim.Native.Nat.{_≤_};
+ghost use Rattle.sheet.specs.Number.{numberOf};
+ghost use Rattle.sheet.specs.WordField.{wordOf};
 ghost use Rattle.sheet.specs.Grammar.{letter-I, letter-S, nextAt};
 ghost use Rattle.sheet.specs.Places.{isAt, isDigitAt, beginsWith, endsLine, Read};
 use crate::Next;
+use crate::Number;
 use crate::Request;
 use crate::fields::COMMA;
 use crate::lines::LF;
 use crate::lines::LONGEST;
+use crate::lines::index_from;
+use crate::lines::part;
 use crate::numbers::LARGEST;
 use crate::numbers::wide;
 use crate::requests::INPUT;
 use crate::requests::SCAN;
 use crate::requests::request_at;
+use crate::word_fields::read_word;
 
-// What is read at a place where a number may stand.
+// What is read at a place where a number or a word may stand.
 pub enum Figure {
-    // A number, and the place after its last digit.
+    // Its value, and the place after its last digit.
     Number(u32, usize),
     Nothing,
 }
@@ -47,7 +53,7 @@ fn is_digit_at(file: &[u8], at: usize) -> bool
 // The number at a place of a file. A 0 is read alone, so that no leading zero is taken: a digit after it stands where the
 // caller looks for the end of the field.
 fn number_at(file: &[u8], at: usize) -> Figure
-    ensures { λ r. ⌜ Read (now (file .entry)) at r ⌝ }
+    ensures { λ r. ⌜ Read numberOf (now (file .entry)) at r ⌝ }
 {
     if is_at(file, at, b'0') {
         return Figure::Number(0, at + 1);
@@ -65,6 +71,29 @@ fn number_at(file: &[u8], at: usize) -> Figure
         return Figure::Nothing;
     }
     Figure::Number(value as u32, i)
+}
+
+// The word up to the end of the line, in hexadecimal.
+fn hex_at(file: &[u8], at: usize) -> Figure
+    ensures { λ r. ⌜ Read wordOf (now (file .entry)) at r ⌝ }
+{
+    let end = index_from(file, at, LF);
+    let Number::Value(word) = read_word(part(file, at, end)) else {
+        return Figure::Nothing;
+    };
+    Figure::Number(word, end)
+}
+
+// The word at a place of a file, where it is the last field of its line.
+fn word_at(file: &[u8], at: usize) -> Figure
+    ensures { λ r. ⌜ Read wordOf (now (file .entry)) at r ⌝ }
+{
+    if is_at(file, at, b'0') {
+        if is_at(file, at + 1, b'x') {
+            return hex_at(file, at);
+        }
+    }
+    number_at(file, at)
 }
 
 // Whether a field of this letter alone stands at a place of a file, and a comma after it.
@@ -110,7 +139,7 @@ fn input_at(file: &[u8], at: usize) -> Next
     if !is_at(file, parting, COMMA) {
         return request_at(file, at);
     }
-    let Figure::Number(word, end) = number_at(file, parting + 1) else {
+    let Figure::Number(word, end) = word_at(file, parting + 1) else {
         return request_at(file, at);
     };
     if ends_line(file, at, end) {

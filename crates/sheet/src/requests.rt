@@ -1,6 +1,6 @@
 // The request that a line makes.
 ghost use mathlib.Core.Path.{_≡_};
-ghost use Rattle.sheet.specs.Grammar.{letterOf, numberIn, motorFrom, inputFrom, scanFrom, motorOf, inputOf, scanOf, requestOf, nextAt, requestRefusal};
+ghost use Rattle.sheet.specs.Grammar.{letterOf, numberIn, wordIn, motorFrom, inputFrom, scanFrom, motorOf, inputOf, scanOf, requestOf, nextAt, requestRefusal};
 use crate::Line;
 use crate::Next;
 use crate::Number;
@@ -11,6 +11,7 @@ use crate::fields::first;
 use crate::lines::next_line;
 use crate::lines::part;
 use crate::numbers::read_number;
+use crate::word_fields::read_word;
 
 // The first field of a line of each kind.
 const MOTOR: u8 = b'M';
@@ -31,6 +32,13 @@ fn first_number(rest: &[u8]) -> Number
     ensures { λ r. ⌜ r ≡ numberIn (now (rest .entry)) 0 ⌝ }
 {
     read_number(first(rest))
+}
+
+// The word in it.
+fn first_word(rest: &[u8]) -> Number
+    ensures { λ r. ⌜ r ≡ wordIn (now (rest .entry)) 0 ⌝ }
+{
+    read_word(first(rest))
 }
 
 // A motor line's request, by its numbers.
@@ -95,8 +103,8 @@ fn motor_line(line: &[u8]) -> Request
     let five = after(four);
     motor(
         first_number(one),
-        first_number(two),
-        first_number(three),
+        first_word(two),
+        first_word(three),
         first_number(four),
         first_number(five),
     )
@@ -107,7 +115,7 @@ fn input_line(line: &[u8]) -> Request
 {
     let one = after(line);
     let two = after(one);
-    input(first_number(one), first_number(two))
+    input(first_number(one), first_word(two))
 }
 
 fn scan_line(line: &[u8]) -> Request

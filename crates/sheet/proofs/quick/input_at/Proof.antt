@@ -5,9 +5,11 @@ use native.Mathlib.Omega.{arith}
 use borrow.Author.Needs.{needs}
 use borrow.Author.Tests.{not-false}
 use Rattle.sheet.specs.Split.{comma}
+use Rattle.sheet.specs.Number.{numberOf}
+use Rattle.sheet.specs.WordField.{wordOf}
 use Rattle.sheet.specs.Grammar.{letter-I}
-use Rattle.sheet.specs.Places.{isAt, endsLine, NumberAt, Read}
-use Rattle.sheet.proofs.PlaceLaws.{byte-at, parted, begun-inside, ended-inside, input-next}
+use Rattle.sheet.specs.Places.{isAt, endsLine, SaidAt, Read}
+use Rattle.sheet.proofs.PlaceLaws.{byte-at, number-said, parted, begun-inside, ended-inside, input-next}
 use Rattle.sheet.proofs.quick.input_at.Statement.{statement}
 use Rattle.sheet.proofs.quick.input_at.Tie as tie
 
@@ -18,7 +20,7 @@ add-number-at c =
 
 -- the number that was read
 number : (c : tie.After-known-told)
-    → NumberAt (c .before .before .before .before .before .args .file .now) (c .before .before .before .before .before .args .at + 2)
+    → SaidAt numberOf (c .before .before .before .before .before .args .file .now) (c .before .before .before .before .before .args .at + 2)
     (c .before .number .given .0 .0) (c .before .number .given .0 .1 .0)
 unfolding Read
 number c = rw (c .before .number .given .1) at (c .before .before .before .number-at .ensures)
@@ -30,16 +32,16 @@ parting : (c : tie.Else1)
     ≡ true
 parting c = sym (c .before .is-at .ensures) ∙ not-false _ (c .if1 .left)
 
-add-number-at-2 : tie.Need-add-number-at-2
-add-number-at-2 c = omega (arith, byte-at _ _ comma (parting c))
+add-word-at : tie.Need-add-word-at
+add-word-at c = omega (arith, byte-at _ _ comma (parting c))
 
 -- the word that was read
 word : (c : tie.After-known-told2)
-    → NumberAt (c .before .before .before .before .before .before .before .before .before .before .before .args .file .now)
+    → SaidAt wordOf (c .before .before .before .before .before .before .before .before .before .before .before .args .file .now)
     (c .before .before .before .before .before .before .before .number .given .0 .1 .0 + 1)
     (c .before .word .given .0 .0) (c .before .word .given .0 .1 .0)
 unfolding Read
-word c = rw (c .before .word .given .1) at (c .before .before .before .number-at2 .ensures)
+word c = rw (c .before .word .given .1) at (c .before .before .before .word-at .ensures)
 
 -- and the line's end after it
 end : (c : tie.Then2)
@@ -51,7 +53,7 @@ end c = sym (c .before .ends-line .ensures) ∙ c .if2 .taken
 
 ends-line-requires : tie.Need-ends-line-requires
 ends-line-requires c κs =
-    omega (arith, parted (number (c .before .before .before .before .before .before)) .further, parted (word c) .further)
+    omega (arith, parted (number-said (number (c .before .before .before .before .before .before))) .further, parted (word c) .further)
 
 add-t14 : tie.Need-add-t14
 add-t14 c = omega (arith, ended-inside _ _ _ (end c))
@@ -75,7 +77,7 @@ input-at-spec =
     (λ c κs. search needs)
     (λ c κs. search needs)
     (λ c. search needs)
-    add-number-at-2
+    add-word-at
     (λ c κs. search needs)
     (λ c. search needs)
     (λ c. search needs)

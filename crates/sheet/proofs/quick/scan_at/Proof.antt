@@ -3,9 +3,10 @@ use mathlib.Core.Path.{_≡_, _∙_, sym}
 use mathlib.Core.Bool.{true}
 use native.Mathlib.Omega.{arith}
 use borrow.Author.Needs.{needs}
+use Rattle.sheet.specs.Number.{numberOf}
 use Rattle.sheet.specs.Grammar.{letter-S}
-use Rattle.sheet.specs.Places.{endsLine, NumberAt, Read}
-use Rattle.sheet.proofs.PlaceLaws.{parted, begun-inside, ended-inside, scan-next}
+use Rattle.sheet.specs.Places.{endsLine, SaidAt, Read}
+use Rattle.sheet.proofs.PlaceLaws.{number-said, parted, begun-inside, ended-inside, scan-next}
 use Rattle.sheet.proofs.quick.scan_at.Statement.{statement}
 use Rattle.sheet.proofs.quick.scan_at.Tie as tie
 
@@ -16,7 +17,7 @@ add-number-at c =
 
 -- the period that was read
 period : (c : tie.After-known-told)
-    → NumberAt (c .before .before .before .before .before .args .file .now) (c .before .before .before .before .before .args .at + 2)
+    → SaidAt numberOf (c .before .before .before .before .before .args .file .now) (c .before .before .before .before .before .args .at + 2)
     (c .before .period .given .0 .0) (c .before .period .given .0 .1 .0)
 unfolding Read
 period c = rw (c .before .period .given .1) at (c .before .before .before .number-at .ensures)
@@ -29,7 +30,7 @@ end : (c : tie.Then1)
 end c = sym (c .before .ends-line .ensures) ∙ c .if1 .taken
 
 ends-line-requires : tie.Need-ends-line-requires
-ends-line-requires c κs = omega (arith, parted (period c) .further)
+ends-line-requires c κs = omega (arith, parted (number-said (period c)) .further)
 
 add-t9 : tie.Need-add-t9
 add-t9 c = omega (arith, ended-inside _ _ _ (end c))
