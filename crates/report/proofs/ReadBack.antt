@@ -7,13 +7,14 @@ use native.Mathlib.Omega.{arith}
 use native.Mathlib.Decide.{decLt}
 use native.Mathlib.Nat.{pow-suc}
 use lib.ListN.{length, take, getD, length-append, List·getD-append}
-use lib.Seq.{take-suc, take-length, length-take-le}
+use lib.Seq.{length-take-le}
 use borrow.Author.Tests.{le-leb, lt-leb}
 use Rattle.words.proofs.Laws.{and-true}
 use Rattle.sheet.specs.Split.{indexOf}
 use Rattle.sheet.specs.Number.{largest, isDigit, allDigits, valueFrom, numberOf}
 use Rattle.sheet.specs.WordField.{wordOf}
 use Rattle.sheet.specs.declared.Number.the-variants.{Value}
+use Rattle.sheet.proofs.SplitLaws.{last-byte}
 use Rattle.sheet.proofs.NumberLaws.{value-grows, digit-range, all-snoc, value-more, digits-free, Spells, spells-number, number-spells}
 use Rattle.sheet.proofs.WordFieldLaws.{number-word}
 use Rattle.report.specs.Print.{digitsOf, decimal}
@@ -61,12 +62,6 @@ spells-digits (suc k) n h = go (decLt n 10) (spells-digits k (n / 10) (omega (ar
 
 -- ---- and nothing else does
 
--- a field without its last byte
-snoc : (s : List ℕ) → 0 < length s → s ≡ take (length s - 1) s ++ (getD s (length s - 1) 0 ∷ [])
-snoc s h =
-    let e : length s ≡ suc (length s - 1) = omega arith in
-    sym (take-length s) ∙ ap (λ (k : ℕ). take k s) e ∙ take-suc s (length s - 1) 0 (omega arith)
-
 value-pos : (s : List ℕ) → 0 < length s → 48 < getD s 0 0 → 0 < valueFrom 0 s
 unfolding valueFrom
 value-pos [] h l = absurd (omega arith)
@@ -96,7 +91,7 @@ last-of {n} s b h p =
 last : {n : ℕ} (s : List ℕ) → 1 < length s → Spells n s → Last n (getD s (length s - 1) 0) (take (length s - 1) s)
 last {n} s h p =
     last-of (take (length s - 1) s) (getD s (length s - 1) 0) (omega (arith, length-take-le (length s - 1) s (omega arith)))
-    (subst (λ (l : List ℕ). Spells n l) (snoc s (omega arith)) p)
+    (subst (λ (l : List ℕ). Spells n l) (last-byte (length s - 1) s (omega arith)) p)
 
 spelt-one : (k : ℕ) {n : ℕ} (s : List ℕ) → length s ≤ 1 → Spells n s → s ≡ digitsOf (suc k) n
 unfolding allDigits valueFrom
@@ -120,7 +115,7 @@ digits-spelt (suc k) n s p h =
         → s ≡ digitsOf (suc (suc k)) n
     go (yes l) ih =
         let q = last s l p in
-        snoc s (omega arith)
+        last-byte (length s - 1) s (omega arith)
         ∙ ap (λ (b : ℕ). take (length s - 1) s ++ (b ∷ [])) (q .digit)
         ∙ ap (λ (t : List ℕ). t ++ ((48 + n % 10) ∷ [])) (ih (q .tens))
         ∙ sym (digits-more (suc k) n (q .large))

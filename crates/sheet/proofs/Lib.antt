@@ -3,6 +3,8 @@ pub mod WordLaws
 pub mod LineLaws
 pub mod NumberLaws
 pub mod WordFieldLaws
+pub mod HexBack
+pub mod DecimalLaws
 pub mod RequestLaws
 pub mod PlaceLaws
 pub mod Vectors

@@ -7,7 +7,7 @@ use native.Mathlib.Omega.{arith}
 use native.Mathlib.Decide.{decLe, decLt}
 use native.Mathlib.Nat.{sub-zero}
 use lib.ListN.{length, take, drop, getD, length-append, length-drop, drop-of-length-le}
-use lib.Seq.{drop-cons, take-all, take-nil}
+use lib.Seq.{drop-cons, take-all, take-nil, take-suc}
 use lib.Dec.{eqb}
 use borrow.Author.Tests.{eq-eqb, ne-eqb, eqb-true, eqb-false}
 use Rattle.words.specs.Word.{if_then_else_}
@@ -237,3 +237,7 @@ between-cut from to start end s e f = go (decLe from end)
         by-end : Dec (to ≤ from) → take (end - start) (drop start s) ≡ take (to - from) (drop from s)
         by-end (yes l) = let z : to - from ≡ 0 = omega arith in rw (g, z)
         by-end (no l) = rw (g, drop-of-length-le s {i = from} (omega arith), take-nil {A = ℕ} (to - from))
+
+-- a part without its last byte, and that byte
+pub last-byte : (k : ℕ) (s : List ℕ) → length s ≡ suc k → s ≡ take k s ++ (getD s k 0 ∷ [])
+last-byte k s h = sym (take-all (suc k) s (omega arith)) ∙ take-suc s k 0 (omega arith)

@@ -45,7 +45,7 @@ short-no-hex [] h = refl
 short-no-hex (x ∷ []) h = rw (ne-eqb 0 120 (λ e. omega arith)) (and-false (eqb x 48))
 short-no-hex (x ∷ y ∷ s) h = absurd (omega arith)
 
-hex-field : (s : List ℕ) → isHex s ≡ true → s ≡ 48 ∷ 120 ∷ drop 2 s
+pub hex-field : (s : List ℕ) → isHex s ≡ true → s ≡ 48 ∷ 120 ∷ drop 2 s
 unfolding isHex
 hex-field s e = let w = and-true (eqb (getD s 0 0) 48) (eqb (getD s 1 0) 120) e in go s (eqb-true _ _ (w .0)) (eqb-true _ _ (w .1))
   where
