@@ -27,7 +27,7 @@ use Rattle.sheet.specs.declared.Request.the-variants.{Motor as M, Input as I, S
 use Rattle.sheet.proofs.MoreLines.{few-requests}
 use Rattle.interpreter.specs.State.{State, emptyState, withMotor, withWords, withWord, scanRefusal, withScan, refusalFor, changed, stateAfter, statesAfter}
 use Rattle.interpreter.specs.Histories.{History, entered, historiesAfter, historiesFrom, historiesOf}
-use Rattle.interpreter.specs.Print.{historyRow, totalsPrint, tooLong, printOf}
+use Rattle.interpreter.specs.Print.{historyRow, totalsPrint, tooLong, requestsPrint, printOf}
 use Rattle.interpreter.specs.Advance.{runningPrint, atEnd}
 use Rattle.interpreter.proofs.PrintLaws.{restFrom, rest-from}
 
@@ -140,6 +140,6 @@ module _ (rs : List Request) (few : length rs ≤ 65536) where
 -- ---- so they are what a file prints at its end
 
 pub print-rest : (file : List ℕ) → length file ≤ 65536 → printOf file ≡ restFrom file 0 emptyState 1
-unfolding printOf tooLong if_then_else_
+unfolding printOf requestsPrint tooLong if_then_else_
 print-rest file h =
     rw (le-ltb 65536 (length file) h, ← end-is (requestsOf file) (omega (arith, few-requests file))) (sym (rest-from file 0 emptyState 1 (omega arith)))

@@ -9,4 +9,5 @@ pub mod Sheet
 pub mod Pieces
 pub mod Beginning
 pub mod Shape
+pub mod DecimalPrint
 pub mod Followed

@@ -82,10 +82,11 @@ linesPrint file = printFrom [] (requestsOf file) emptyState 1
 unfoldable pub tooLong : ℕ → Bool
 tooLong n = ltb 65536 n
 
--- The whole print. Lines of the file are counted from 1, and so are motors. The totals are printed only if no line is refused, so they are
--- those of the histories that all lines make.
+-- The print of a file whose lines make these requests. Lines of the file are counted from 1, and so are motors. The totals are printed only if no
+-- line is refused, so they are those of the histories that all lines make.
+unfoldable pub requestsPrint : List Request → List ℕ
+requestsPrint rs = printFrom (totalsPrint 1 (historiesOf rs)) rs emptyState 1
+
+-- The whole print
 unfoldable pub printOf : List ℕ → List ℕ
-printOf file =
-    let rs = requestsOf file in
-    if tooLong (length file) then refusalOf 0 1
-    else printFrom (totalsPrint 1 (historiesOf rs)) rs emptyState 1
+printOf file = if tooLong (length file) then refusalOf 0 1 else requestsPrint (requestsOf file)

@@ -1,4 +1,4 @@
--- The paper's own file, the borders of refusal 5 and the traps of the search for LF, by computing. Assumes nothing.
+-- The paper's own file, the borders of refusal 5, words in both notations and the traps of the search for LF, by computing. Assumes nothing.
 use Prim.Native.Nat.{ℕ, _+_, _*_}
 use mathlib.Core.Path.{_≡_, refl}
 use mathlib.Core.List.{List, [], _∷_, _++_}
@@ -6,6 +6,7 @@ use lib.ListN.{replicate}
 use Rattle.sheet.specs.Split.{LF}
 use Rattle.sheet.specs.WordBytes.{bytesOf}
 use Rattle.sheet.specs.Number.{numberOf}
+use Rattle.sheet.specs.WordField.{wordOf}
 use Rattle.sheet.specs.Lines.{lineAt}
 use Rattle.sheet.specs.Grammar.{requestOf, requestsOf}
 use Rattle.sheet.specs.Opened.{opened}
@@ -102,6 +103,119 @@ unknown = refl
 two-letters : requestOf (83 ∷ 83 ∷ 44 ∷ 49 ∷ []) ≡ Refused
 unfolding opened
 two-letters = refl
+
+-- ---- words: 0x0, 0x1F, 0xABCDEF, 0xFFFFFFFF, and 193 in all eight digits; 193 and 0 without 0x
+hex-zero : wordOf (48 ∷ 120 ∷ 48 ∷ []) ≡ Value 0
+unfolding opened
+hex-zero = refl
+
+hex-two : wordOf (48 ∷ 120 ∷ 49 ∷ 70 ∷ []) ≡ Value 31
+unfolding opened
+hex-two = refl
+
+hex-letters : wordOf (48 ∷ 120 ∷ 65 ∷ 66 ∷ 67 ∷ 68 ∷ 69 ∷ 70 ∷ []) ≡ Value 11259375
+unfolding opened
+hex-letters = refl
+
+hex-largest : wordOf (48 ∷ 120 ∷ 70 ∷ 70 ∷ 70 ∷ 70 ∷ 70 ∷ 70 ∷ 70 ∷ 70 ∷ []) ≡ Value 4294967295
+unfolding opened
+hex-largest = refl
+
+hex-zeros : wordOf (48 ∷ 120 ∷ 48 ∷ 48 ∷ 48 ∷ 48 ∷ 48 ∷ 48 ∷ 67 ∷ 49 ∷ []) ≡ Value 193
+unfolding opened
+hex-zeros = refl
+
+word-decimal : wordOf (49 ∷ 57 ∷ 51 ∷ []) ≡ Value 193
+unfolding opened
+word-decimal = refl
+
+word-zero : wordOf (48 ∷ []) ≡ Value 0
+unfolding opened
+word-zero = refl
+
+-- nine digits, none, a small letter, a large X
+hex-nine : wordOf (48 ∷ 120 ∷ 48 ∷ 48 ∷ 48 ∷ 48 ∷ 48 ∷ 48 ∷ 48 ∷ 67 ∷ 49 ∷ []) ≡ NoNumber
+unfolding opened
+hex-nine = refl
+
+hex-none : wordOf (48 ∷ 120 ∷ []) ≡ NoNumber
+unfolding opened
+hex-none = refl
+
+hex-small : wordOf (48 ∷ 120 ∷ 99 ∷ 49 ∷ []) ≡ NoNumber
+unfolding opened
+hex-small = refl
+
+hex-large-x : wordOf (48 ∷ 88 ∷ 67 ∷ 49 ∷ []) ≡ NoNumber
+unfolding opened
+hex-large-x = refl
+
+-- the bytes beside A to F and 0 to 9: 0x@, 0xG, 0x/ and 0x:
+hex-at : wordOf (48 ∷ 120 ∷ 64 ∷ []) ≡ NoNumber
+unfolding opened
+hex-at = refl
+
+hex-g : wordOf (48 ∷ 120 ∷ 71 ∷ []) ≡ NoNumber
+unfolding opened
+hex-g = refl
+
+hex-slash : wordOf (48 ∷ 120 ∷ 47 ∷ []) ≡ NoNumber
+unfolding opened
+hex-slash = refl
+
+hex-colon : wordOf (48 ∷ 120 ∷ 58 ∷ []) ≡ NoNumber
+unfolding opened
+hex-colon = refl
+
+-- +0xC1, 0x+1, a blank behind, 0x0xC1 and 00xC1
+hex-sign : wordOf (43 ∷ 48 ∷ 120 ∷ 67 ∷ 49 ∷ []) ≡ NoNumber
+unfolding opened
+hex-sign = refl
+
+hex-sign-inside : wordOf (48 ∷ 120 ∷ 43 ∷ 49 ∷ []) ≡ NoNumber
+unfolding opened
+hex-sign-inside = refl
+
+hex-blank : wordOf (48 ∷ 120 ∷ 67 ∷ 49 ∷ 32 ∷ []) ≡ NoNumber
+unfolding opened
+hex-blank = refl
+
+hex-twice : wordOf (48 ∷ 120 ∷ 48 ∷ 120 ∷ 67 ∷ 49 ∷ []) ≡ NoNumber
+unfolding opened
+hex-twice = refl
+
+hex-zero-first : wordOf (48 ∷ 48 ∷ 120 ∷ 67 ∷ 49 ∷ []) ≡ NoNumber
+unfolding opened
+hex-zero-first = refl
+
+-- M,1,0xC1,0x1F,500,300 and I,1,0x20; but M,0x1,.., a W and a U of 0x1F, I,0x1,32 and S,0x64 make no request
+hex-motor : requestOf (77 ∷ 44 ∷ 49 ∷ 44 ∷ 48 ∷ 120 ∷ 67 ∷ 49 ∷ 44 ∷ 48 ∷ 120 ∷ 49 ∷ 70 ∷ 44 ∷ 53 ∷ 48 ∷ 48 ∷ 44 ∷ 51 ∷ 48 ∷ 48 ∷ []) ≡ Motor 1 193 31 500 300
+unfolding opened
+hex-motor = refl
+
+hex-input : requestOf (73 ∷ 44 ∷ 49 ∷ 44 ∷ 48 ∷ 120 ∷ 50 ∷ 48 ∷ []) ≡ Input 1 32
+unfolding opened
+hex-input = refl
+
+hex-number : requestOf (77 ∷ 44 ∷ 48 ∷ 120 ∷ 49 ∷ 44 ∷ 48 ∷ 120 ∷ 67 ∷ 49 ∷ 44 ∷ 48 ∷ 120 ∷ 49 ∷ 70 ∷ 44 ∷ 53 ∷ 48 ∷ 48 ∷ 44 ∷ 51 ∷ 48 ∷ 48 ∷ []) ≡ Refused
+unfolding opened
+hex-number = refl
+
+hex-w : requestOf (77 ∷ 44 ∷ 49 ∷ 44 ∷ 49 ∷ 57 ∷ 51 ∷ 44 ∷ 48 ∷ 44 ∷ 48 ∷ 120 ∷ 49 ∷ 70 ∷ 44 ∷ 51 ∷ 48 ∷ 48 ∷ []) ≡ Refused
+unfolding opened
+hex-w = refl
+
+hex-u : requestOf (77 ∷ 44 ∷ 49 ∷ 44 ∷ 49 ∷ 57 ∷ 51 ∷ 44 ∷ 48 ∷ 44 ∷ 53 ∷ 48 ∷ 48 ∷ 44 ∷ 48 ∷ 120 ∷ 49 ∷ 70 ∷ []) ≡ Refused
+unfolding opened
+hex-u = refl
+
+hex-input-number : requestOf (73 ∷ 44 ∷ 48 ∷ 120 ∷ 49 ∷ 44 ∷ 51 ∷ 50 ∷ []) ≡ Refused
+unfolding opened
+hex-input-number = refl
+
+hex-period : requestOf (83 ∷ 44 ∷ 48 ∷ 120 ∷ 54 ∷ 52 ∷ []) ≡ Refused
+unfolding opened
+hex-period = refl
 
 -- ---- the word test's traps: which bytes it takes for LF
 

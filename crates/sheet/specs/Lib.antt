@@ -4,5 +4,6 @@ pub mod Lines
 pub mod Number
 pub mod WordField
 pub mod Grammar
+pub mod DecimalWords
 pub mod Places
 pub mod Opened

@@ -5,7 +5,8 @@ use Rattle.sheet.specs.Lines.{foundLF, wellSized, textOf, textsOf, lines
 use Rattle.sheet.specs.Number.{isDigit, allDigits, valueFrom, digitsNumber, leadingZero, numberOf}
 use Rattle.sheet.specs.WordField.{hexDigit, hexFrom, hexNumber, isHex, wordOf, hexDigitOf, hexDigitsOf, hexadecimal}
 use Rattle.sheet.specs.Grammar.{letterOf, isKind, numberIn, wordIn, withValue, motorFrom, inputFrom, scanFrom, motorOf, inputOf, scanOf, requestOf, textRequest, requestsOf, takenAt, nextAt, requestRefusal, valuesOf}
+use Rattle.sheet.specs.DecimalWords.{decimalMotor, decimalInput, decimalRequest, decimalText, decimalRequests, hasHex, textHasHex}
 
 unfoldable pub opened : Type 0
-unfolding if_then_else_ joinFirst split joined indexOf between fieldOf fieldCount foundLF wellSized textOf textsOf linesOf firstLine lineAt isDigit allDigits valueFrom digitsNumber leadingZero numberOf hexDigit hexFrom hexNumber isHex wordOf hexDigitOf hexDigitsOf hexadecimal letterOf isKind numberIn wordIn withValue motorFrom inputFrom scanFrom motorOf inputOf scanOf requestOf textRequest requestsOf takenAt nextAt requestRefusal valuesOf
+unfolding if_then_else_ joinFirst split joined indexOf between fieldOf fieldCount foundLF wellSized textOf textsOf linesOf firstLine lineAt isDigit allDigits valueFrom digitsNumber leadingZero numberOf hexDigit hexFrom hexNumber isHex wordOf hexDigitOf hexDigitsOf hexadecimal letterOf isKind numberIn wordIn withValue motorFrom inputFrom scanFrom motorOf inputOf scanOf requestOf textRequest requestsOf takenAt nextAt requestRefusal valuesOf decimalMotor decimalInput decimalRequest decimalText decimalRequests hasHex textHasHex
 opened = Unit {0}
