@@ -22,6 +22,8 @@ use crate::requests::SCAN;
 use crate::requests::request_at;
 use crate::word_fields::read_word;
 
+const ZERO: u8 = b'0';
+
 // What is read at a place where a number or a word may stand.
 pub enum Figure {
     // Its value, and the place after its last digit.
@@ -55,7 +57,7 @@ fn is_digit_at(file: &[u8], at: usize) -> bool
 fn number_at(file: &[u8], at: usize) -> Figure
     ensures { λ r. ⌜ Read numberOf (now (file .entry)) at r ⌝ }
 {
-    if is_at(file, at, b'0') {
+    if is_at(file, at, ZERO) {
         return Figure::Number(0, at + 1);
     }
     let mut value: u64 = 0;
@@ -88,7 +90,7 @@ fn hex_at(file: &[u8], at: usize) -> Figure
 fn word_at(file: &[u8], at: usize) -> Figure
     ensures { λ r. ⌜ Read wordOf (now (file .entry)) at r ⌝ }
 {
-    if is_at(file, at, b'0') {
+    if is_at(file, at, ZERO) {
         if is_at(file, at + 1, b'x') {
             return hex_at(file, at);
         }
