@@ -1,13 +1,15 @@
 //! Files in which the places of LFs are gone through one by one.
 
 /// M lines, which are read whole at some lengths and so show where their LF was
-/// found, `#` being the number of the next motor; an I and an S line; and one
-/// that is always refused. Each has room for an LF at the last place.
-const LINES: [&[u8]; 6] = [
+/// found, `#` being the number of the next motor; an I line in each notation and
+/// an S line; and one that is always refused. Each has room for an LF at the last
+/// place.
+const LINES: [&[u8]; 7] = [
     b"M,#,0,0,1,100000000000",
     b"M,#,193,0,500,30000000",
     b"M,#,193,0,600000,100000",
     b"I,1,131071000000000000",
+    b"I,1,0x0001FFFF00000000",
     b"S,1000000000000000000",
     b"\x0b\x8a\xff\x00\x09\x0b\x8a\xff\x00\x09\x0b\x8a\xff\x00\x09\x0b\x8a\xff\x00\x09\x0b\x8a",
 ];

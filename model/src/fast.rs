@@ -283,32 +283,79 @@ fn push_number(bytes: &mut Vec<u8>, value: u32) {
     bytes.extend_from_slice(&digits[..length]);
 }
 
-/// The numbers after the first comma into `fields`, which must all be filled.
+/// Takes a decimal number from the front of a text.
 #[inline]
-fn numbers(text: &[u8], fields: &mut [u32]) -> bool {
-    let mut at = 0;
-    let last = fields.len() - 1;
-    for (count, field) in fields.iter_mut().enumerate() {
-        let start = at;
-        let mut value = 0u64;
-        while at < text.len() && text[at].is_ascii_digit() && at - start < 11 {
-            value = 10 * value + u64::from(text[at] - b'0');
-            at += 1;
-        }
-        let length = at - start;
-        if length == 0 || (length > 1 && text[start] == b'0') || value > u64::from(u32::MAX) {
-            return false;
-        }
-        *field = value as u32;
-        if count == last {
-            return at == text.len();
-        }
-        if at == text.len() || text[at] != b',' {
-            return false;
-        }
-        at += 1;
+fn number(text: &mut &[u8]) -> Option<u32> {
+    let mut value = 0u64;
+    let mut length = 0;
+    while length < text.len() && text[length].is_ascii_digit() && length < 11 {
+        value = 10 * value + u64::from(text[length] - b'0');
+        length += 1;
     }
-    false
+    if length == 0 || (length > 1 && text[0] == b'0') || value > u64::from(u32::MAX) {
+        return None;
+    }
+    *text = &text[length..];
+    Some(value as u32)
+}
+
+/// Takes a word from the front of a text: `0x` and up to eight digits, or a
+/// decimal number. A ninth digit stays, and is no end of a field.
+#[inline]
+fn word(text: &mut &[u8]) -> Option<u32> {
+    let [b'0', b'x', digits @ ..] = *text else {
+        return number(text);
+    };
+    let mut value = 0;
+    let mut length = 0;
+    while length < digits.len() && length < 8 {
+        let digit = match digits[length] {
+            byte @ b'0'..=b'9' => byte - b'0',
+            byte @ b'A'..=b'F' => byte - b'A' + 10,
+            _ => break,
+        };
+        value = value << 4 | u32::from(digit);
+        length += 1;
+    }
+    *text = &digits[length..];
+    (length > 0).then_some(value)
+}
+
+#[inline]
+fn comma(text: &mut &[u8]) -> Option<()> {
+    *text = text.strip_prefix(b",")?;
+    Some(())
+}
+
+/// The fields after `M,`: number, OPS_1, OPS_2, W and U.
+#[inline]
+fn motor_fields(mut text: &[u8]) -> Option<[u32; 5]> {
+    let motor = number(&mut text)?;
+    comma(&mut text)?;
+    let ops = word(&mut text)?;
+    comma(&mut text)?;
+    let ops2 = word(&mut text)?;
+    comma(&mut text)?;
+    let wait = number(&mut text)?;
+    comma(&mut text)?;
+    let pulse = number(&mut text)?;
+    text.is_empty().then_some([motor, ops, ops2, wait, pulse])
+}
+
+/// The fields after `I,`: number and word.
+#[inline]
+fn word_fields(mut text: &[u8]) -> Option<[u32; 2]> {
+    let motor = number(&mut text)?;
+    comma(&mut text)?;
+    let word = word(&mut text)?;
+    text.is_empty().then_some([motor, word])
+}
+
+/// The field after `S,`.
+#[inline]
+fn period_field(mut text: &[u8]) -> Option<u32> {
+    let period = number(&mut text)?;
+    text.is_empty().then_some(period)
 }
 
 struct State {
@@ -328,22 +375,16 @@ impl State {
         let rest = &line[2..];
         Ok(match line[0] {
             b'S' => {
-                let mut fields = [0; 1];
-                if !numbers(rest, &mut fields) {
-                    5
-                } else if fields[0] == 0 || fields[0] > 10_000 {
+                let Some(period) = period_field(rest) else { return Ok(5) };
+                if period == 0 || period > 10_000 {
                     2
                 } else {
-                    self.scan(fields[0], print)?;
+                    self.scan(period, print)?;
                     0
                 }
             }
             b'I' => {
-                let mut fields = [0; 2];
-                if !numbers(rest, &mut fields) {
-                    return Ok(5);
-                }
-                let [number, word] = fields;
+                let Some([number, word]) = word_fields(rest) else { return Ok(5) };
                 if number == 0 || number as usize > self.count {
                     10
                 } else if word > 131_071 {
@@ -354,11 +395,7 @@ impl State {
                 }
             }
             b'M' => {
-                let mut fields = [0; 5];
-                if !numbers(rest, &mut fields) {
-                    return Ok(5);
-                }
-                let [number, ops, ops2, wait, pulse] = fields;
+                let Some([number, ops, ops2, wait, pulse]) = motor_fields(rest) else { return Ok(5) };
                 if ops > 65_535 || ops2 > 31 || wait > 600_000 || pulse > 600_000 {
                     4
                 } else if self.scans > 0 {

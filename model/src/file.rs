@@ -42,11 +42,20 @@ pub fn number(field: &[u8]) -> Option<u32> {
     }
 }
 
-/// All numbers of a line after its first field, if each is one and there are
-/// exactly as many as wanted.
-fn numbers<const N: usize>(fields: &[&[u8]]) -> Option<[u32; N]> {
-    let values: Option<Vec<u32>> = fields.iter().map(|field| number(field)).collect();
-    values?.try_into().ok()
+/// A field for the bits of OPS_1, OPS_2 or an input word (change request 4): a
+/// number as everywhere, or `0x` in just this writing and after it one to eight
+/// of the digits 0 to 9 and A to F, with zeros in front or not.
+pub fn word(field: &[u8]) -> Option<u32> {
+    let Some(digits) = field.strip_prefix(b"0x") else {
+        return number(field);
+    };
+    if digits.is_empty() || digits.len() > 8 {
+        return None;
+    }
+    digits.iter().try_fold(0, |value, digit| {
+        let place = b"0123456789ABCDEF".iter().position(|known| known == digit)?;
+        Some(16 * value + place as u32)
+    })
 }
 
 /// A line that refusal 5 lets through.
@@ -61,12 +70,14 @@ fn read_line(line: &[u8], ends_in_lf: bool) -> Option<Line> {
         return None;
     }
     let fields: Vec<&[u8]> = line.split(|byte| *byte == b',').collect();
-    match fields[0] {
-        b"M" => numbers(&fields[1..]).map(Line::M),
-        b"I" => numbers(&fields[1..]).map(Line::I),
-        b"S" => numbers(&fields[1..]).map(Line::S),
-        _ => None,
-    }
+    Some(match fields[..] {
+        [b"M", motor, ops_1, ops_2, wait, pulse] => {
+            Line::M([number(motor)?, word(ops_1)?, word(ops_2)?, number(wait)?, number(pulse)?])
+        }
+        [b"I", motor, input] => Line::I([number(motor)?, word(input)?]),
+        [b"S", period] => Line::S([number(period)?]),
+        _ => return None,
+    })
 }
 
 impl Bench {
@@ -140,15 +151,15 @@ impl Bench {
     }
 }
 
-/// Runs a file and tells the watcher of every line: what it did, or why it was
-/// refused (with line 0 for a file that is too long). Hands back the print and,
-/// if nothing was refused, the books that its totals come from.
+/// Runs a file and tells the watcher of every line, without its LF: what it did,
+/// or why it was refused (an empty line for a file that is too long). Hands back
+/// the print and, if nothing was refused, the books that its totals come from.
 pub fn run_watched(
     file: &[u8],
-    mut watch: impl FnMut(u32, &Result<Done, u32>),
+    mut watch: impl FnMut(&[u8], &Result<Done, u32>),
 ) -> (Vec<u8>, Option<Vec<Book>>) {
     if file.len() > FILE_LIMIT {
-        watch(0, &Err(1));
+        watch(b"", &Err(1));
         return (b"E,0,1\n".to_vec(), None);
     }
     let mut bench = Bench::default();
@@ -160,7 +171,7 @@ pub fn run_watched(
             None => (raw, false),
         };
         let result = bench.take(line, ends_in_lf);
-        watch(count, &result);
+        watch(line, &result);
         match result {
             Ok(Done::Scan(lines, _)) => print.extend_from_slice(lines.as_bytes()),
             Ok(_) => {}

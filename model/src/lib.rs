@@ -12,6 +12,7 @@
 //! * [`totals`]: the totals of a sitting, counted from the book;
 //! * [`paper`]: the sheets of the paper and a few worked by hand;
 //! * [`ends`]: files with an LF at each of the first places;
+//! * [`words`]: files with each way of writing a word, right and wrong;
 //! * [`story`]: random files, whole and damaged, repeatable from a seed;
 //! * [`tally`]: what happened in the files, by the model's count;
 //! * [`outside`]: running a program on a file;
@@ -40,3 +41,4 @@ pub mod shrink;
 pub mod story;
 pub mod tally;
 pub mod totals;
+pub mod words;

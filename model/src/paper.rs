@@ -284,5 +284,46 @@ pub fn more_sheets() -> Vec<Sheet> {
             &["M,1,193,28,500,300\nI,1,48\nS,100\nI,1,16\nS,7\nI,1,0\nS,100\n"],
             Last("R,3,1,2,2,0,0,0,2\nT,1,0,0,0,0,0,7,0,0\n"),
         ),
+        // Change request 4: words in hexadecimal.
+        sheet(
+            "the whole print, in hexadecimal",
+            &["M,1,0xC1,0x0,500,300\nI,1,0x20\nS,100\nI,1,0x1020\nS,100\nI,1,0x10\nS,100\n"],
+            whole("R,1,1,2,1,0,0,0,0\nR,2,1,2,1,7,0,1,0\nR,3,1,2,2,0,1,0,0\nT,1,1,1,0,0,0,100,100,100\n"),
+        ),
+        sheet(
+            "the whole print, in both notations",
+            &["M,1,0x000000C1,0,500,300\nI,1,0x0020\nS,100\nI,1,4128\nS,100\nI,1,0x00000010\nS,100\n"],
+            whole("R,1,1,2,1,0,0,0,0\nR,2,1,2,1,7,0,1,0\nR,3,1,2,2,0,1,0,0\nT,1,1,1,0,0,0,100,100,100\n"),
+        ),
+        // 0x1C is 28, a pretended On.
+        sheet(
+            "word 0x30, OPS_2 0x1C",
+            &["M,1,193,0x1C,500,300\nI,1,0x30\nS,100\n"],
+            whole("R,1,1,2,2,0,0,0,16386\nT,1,0,0,0,0,0,0,0,0\n"),
+        ),
+        sheet(
+            "words at their limits, in hexadecimal",
+            &["M,1,0xFFFF,0x1F,600000,600000\nI,1,0x1FFFF\n"],
+            whole("T,1,0,0,0,0,0,0,0,0\n"),
+        ),
+        sheet("OPS_1 0x10000", &["M,1,0x10000,0x1F,600000,600000\n"], whole("E,1,4\n")),
+        sheet("OPS_2 0x20", &["M,1,0xFFFF,0x20,600000,600000\n"], whole("E,1,4\n")),
+        sheet("OPS_1 0xFFFFFFFF", &["M,1,0xFFFFFFFF,0,500,300\n"], whole("E,1,4\n")),
+        sheet("word 0x20000", &[MOTOR, "I,1,0x20000\n"], whole("E,2,3\n")),
+        sheet("word 0xFFFFFFFF", &[MOTOR, "I,1,0xFFFFFFFF\n"], whole("E,2,3\n")),
+        sheet("word 0x80000020", &[MOTOR, "I,1,0x80000020\n"], whole("E,2,3\n")),
+        sheet("motor 2 of 1, word 0x20000", &[MOTOR, "I,2,0x20000\n"], whole("E,2,10\n")),
+        sheet("OPS_1 with a small letter", &["M,1,0xc1,0,500,300\n"], whole("E,1,5\n")),
+        sheet("OPS_2 with a small letter", &["M,1,193,0x1c,500,300\n"], whole("E,1,5\n")),
+        sheet("word with a small letter", &[MOTOR, "I,1,0x2a\n"], whole("E,2,5\n")),
+        sheet("word with 0X", &[MOTOR, "I,1,0X20\n"], whole("E,2,5\n")),
+        sheet("word without a digit", &[MOTOR, "I,1,0x\n"], whole("E,2,5\n")),
+        sheet("word in nine digits", &[MOTOR, "I,1,0x000000020\n"], whole("E,2,5\n")),
+        sheet("32 bits and more, in hexadecimal", &[MOTOR, "I,1,0x100000020\n"], whole("E,2,5\n")),
+        sheet("number of M in hexadecimal", &["M,0x1,193,0,500,300\n"], whole("E,1,5\n")),
+        sheet("W in hexadecimal", &["M,1,193,0,0x1F4,300\n"], whole("E,1,5\n")),
+        sheet("U in hexadecimal", &["M,1,193,0,500,0x12C\n"], whole("E,1,5\n")),
+        sheet("number of I in hexadecimal", &[MOTOR, "I,0x1,32\n"], whole("E,2,5\n")),
+        sheet("period in hexadecimal", &[MOTOR, "S,0x64\n"], whole("E,2,5\n")),
     ]
 }

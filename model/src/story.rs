@@ -2,11 +2,13 @@
 //!
 //! A whole file is played with the model at hand: switches answer commands,
 //! fail to or move by themselves, and periods often land on the very end of a
-//! monitoring or pulse time or one beside it. A damaged file is a whole one with
-//! something done to it, or a line made to be refused.
+//! monitoring or pulse time or one beside it. Its words are decimal, hexadecimal
+//! or some of each. A damaged file is a whole one with something done to it, or a
+//! line made to be refused.
 
-use crate::file::{Bench, FILE_LIMIT};
-use crate::record::Record;
+use crate::file::{number, word, Bench, FILE_LIMIT};
+use crate::record::{Record, SETTING_LIMITS};
+use crate::words::ODD;
 
 /// A small generator of numbers (SplitMix).
 pub struct Dice(u64);
@@ -261,15 +263,39 @@ fn next_period(dice: &mut Dice, bench: &Bench, usual: u32) -> u32 {
     period.clamp(1, 10_000)
 }
 
+/// A word in hexadecimal, in any number of digits that has room for it.
+fn hexadecimal(dice: &mut Dice, value: u32) -> String {
+    let least = format!("{value:X}").len() as u32;
+    let any = dice.within(least, 8);
+    let digits = dice.pick(&[least, any, any, 8]) as usize;
+    format!("0x{value:0digits$X}")
+}
+
+/// A word in hexadecimal so many times in a hundred, otherwise decimal.
+fn either(dice: &mut Dice, share: u64, value: u32) -> String {
+    if share > 0 && dice.percent(share) {
+        hexadecimal(dice, value)
+    } else {
+        value.to_string()
+    }
+}
+
 /// A file under way, with the model at the same point.
 struct Writer {
     bench: Bench,
     file: Vec<u8>,
+    /// Of a hundred words so many are hexadecimal.
+    share: u64,
 }
 
 impl Writer {
-    fn new() -> Writer {
-        Writer { bench: Bench::default(), file: Vec::new() }
+    fn new(dice: &mut Dice) -> Writer {
+        Writer { share: dice.pick(&[0, 0, 15, 50, 85, 100]), ..Writer::decimal() }
+    }
+
+    /// Without any hexadecimal word.
+    fn decimal() -> Writer {
+        Writer { bench: Bench::default(), file: Vec::new(), share: 0 }
     }
 
     fn line(&mut self, line: String) {
@@ -279,9 +305,15 @@ impl Writer {
         self.file.push(b'\n');
     }
 
-    fn motor(&mut self, [ops_1, ops_2, wait, pulse]: [u32; 4]) {
+    fn motor(&mut self, dice: &mut Dice, [ops_1, ops_2, wait, pulse]: [u32; 4]) {
         let number = self.bench.motors.len() + 1;
+        let [ops_1, ops_2] = [ops_1, ops_2].map(|value| either(dice, self.share, value));
         self.line(format!("M,{number},{ops_1},{ops_2},{wait},{pulse}"));
+    }
+
+    fn word(&mut self, dice: &mut Dice, place: usize, word: u32) {
+        let word = either(dice, self.share, word);
+        self.line(format!("I,{},{word}", place + 1));
     }
 
     /// New words for some motors, then a scan.
@@ -291,10 +323,11 @@ impl Writer {
             let word = next_word(dice, &self.bench.motors[place].clone(), old, busy);
             // A word that is overwritten before the scan must leave no trace.
             if dice.percent(4) {
-                self.line(format!("I,{},{}", place + 1, dice.within(0, 131_071)));
-                self.line(format!("I,{},{word}", place + 1));
+                let other = dice.within(0, 131_071);
+                self.word(dice, place, other);
+                self.word(dice, place, word);
             } else if word != old || dice.percent(5) {
-                self.line(format!("I,{},{word}", place + 1));
+                self.word(dice, place, word);
             }
         }
         let period = next_period(dice, &self.bench, usual);
@@ -316,11 +349,11 @@ fn motor_count(dice: &mut Dice) -> u32 {
 
 /// A file without refusals.
 fn whole(dice: &mut Dice, most_scans: u32) -> Writer {
-    let mut writer = Writer::new();
+    let mut writer = Writer::new(dice);
     let motors = motor_count(dice);
     for _ in 0..motors {
         let settings = settings(dice);
-        writer.motor(settings);
+        writer.motor(dice, settings);
     }
     let most = most_scans.min(1 + 400 / (motors + 1));
     let scans = dice.within(most / 4, most);
@@ -333,7 +366,7 @@ fn whole(dice: &mut Dice, most_scans: u32) -> Writer {
 }
 
 fn odd_field(dice: &mut Dice) -> Vec<u8> {
-    let fixed: [&[u8]; 30] = [
+    let fixed: [&[u8]; 29] = [
         b"",
         b" ",
         b"-1",
@@ -349,7 +382,6 @@ fn odd_field(dice: &mut Dice) -> Vec<u8> {
         b"1 ",
         b"1.0",
         b"1e2",
-        b"0x10",
         b"1_0",
         b"1'000",
         b"\"1\"",
@@ -392,6 +424,73 @@ fn odd_field(dice: &mut Dice) -> Vec<u8> {
     }
 }
 
+/// Nearly a word in hexadecimal, mostly of a value up to `limit`.
+fn odd_hexadecimal(dice: &mut Dice, limit: u32) -> Vec<u8> {
+    let value = dice.within(0, limit);
+    let mut field = hexadecimal(dice, value).into_bytes();
+    let length = field.len() as u32;
+    match dice.below(18) {
+        // A byte beside the digits, or another, in place of one or put in.
+        0..=1 => field[dice.within(2, length - 1) as usize] = dice.pick(b"/:@G`g/:@G`g +-xX.afz"),
+        2..=3 => field.insert(dice.within(0, length) as usize, dice.pick(b"/:@G`gafxX\t")),
+        4..=6 => {
+            let any = dice.within(0, length);
+            field.insert(dice.pick(&[0, 2, length, any]) as usize, dice.pick(b"+-  "));
+        }
+        // Something else before the digits.
+        7..=8 => {
+            let start: &[u8] = dice.pick(&[&b"x"[..], b"00x", b"0x0x", b"0xx", b"1x", b"Ox", b"-x"]);
+            field.splice(..2, start.iter().copied());
+        }
+        9..=10 => field[1] = b'X',
+        // Small letters, or one beside a capital one.
+        11 => {
+            let letter = dice.within(10, 15);
+            field = hexadecimal(dice, value & !15 | letter).to_lowercase().into_bytes();
+        }
+        12 => {
+            let letters = 16 * dice.within(10, 15) + dice.within(10, 15);
+            field = hexadecimal(dice, value & !255 | letters).into_bytes();
+            let small = field.len() - dice.within(1, 2) as usize;
+            field[small].make_ascii_lowercase();
+        }
+        // No digit, or more than eight: zeros in front, or a value that is good again
+        // for one who counts round and round.
+        13..=14 => field.truncate(2),
+        15 => {
+            let digits = dice.pick(&[9, 9, 10, 16, 17, 60]);
+            field = format!("0x{value:0digits$X}").into_bytes();
+        }
+        16 => field = format!("0x{}{value:08X}", dice.pick(&["1", "F", "100000000"])).into_bytes(),
+        _ => field = dice.pick(&ODD).to_vec(),
+    }
+    debug_assert!(word(&field).is_none(), "{}", field.escape_ascii());
+    field
+}
+
+/// The line with one field wrong in hexadecimal: not a word where one may stand,
+/// and a good one where only a number may.
+fn wrong_notation(dice: &mut Dice, line: &[u8]) -> Vec<u8> {
+    let mut fields: Vec<Vec<u8>> = line.split(|byte| *byte == b',').map(<[u8]>::to_vec).collect();
+    let (place, limit) = match fields[0][..] {
+        [b'M'] => {
+            let [ops_1, ops_2, ..] = SETTING_LIMITS.map(Some);
+            let word = dice.pick(&[(2, ops_1), (3, ops_2)]);
+            dice.pick(&[word, word, word, word, word, word, (1, None), (4, None), (5, None)])
+        }
+        [b'I'] => {
+            let word = (2, Some(131_071));
+            dice.pick(&[word, word, word, (1, None)])
+        }
+        _ => (1, None),
+    };
+    fields[place] = match limit {
+        Some(limit) => odd_hexadecimal(dice, limit),
+        None => hexadecimal(dice, number(&fields[place]).expect("a number")).into_bytes(),
+    };
+    fields.join(&b',')
+}
+
 fn with_fields(first: &[u8], fields: &[Vec<u8>]) -> Vec<u8> {
     let mut line = first.to_vec();
     for field in fields {
@@ -401,12 +500,15 @@ fn with_fields(first: &[u8], fields: &[Vec<u8>]) -> Vec<u8> {
     line
 }
 
-/// A number that may be at a limit, above it or far above.
+/// A number that may be at a limit, above it or far above; then it may be in order
+/// again for one who drops bits.
 fn near(dice: &mut Dice, limit: u32, over: u64) -> u32 {
+    let inside = dice.within(0, limit);
     if dice.percent(over) {
-        dice.pick(&[limit + 1, limit + 1, limit + 2, 2 * limit + 2, 1_000_000, u32::MAX - 1, u32::MAX])
+        let bit = 1 << dice.within(20, 31);
+        let far = dice.pick(&[1_000_000, u32::MAX - 1, u32::MAX, bit, bit | inside, bit | inside]);
+        dice.pick(&[limit + 1, limit + 1, limit + 2, 2 * limit + 2, far, far, far])
     } else {
-        let inside = dice.within(0, limit);
         dice.pick(&[0, limit, limit, inside])
     }
 }
@@ -429,9 +531,9 @@ fn doubtful_motor(dice: &mut Dice, bench: &Bench) -> Vec<u8> {
         let place = dice.below(4) as usize;
         limits[place] = [65_536, 32, 600_001, 600_001][place];
     }
-    let fields: Vec<Vec<u8>> =
-        [&[number], &limits[..]].concat().iter().map(|n| n.to_string().into_bytes()).collect();
-    with_fields(b"M", &fields)
+    let [ops_1, ops_2, wait, pulse] = limits;
+    let [ops_1, ops_2] = [ops_1, ops_2].map(|value| either(dice, 50, value));
+    format!("M,{number},{ops_1},{ops_2},{wait},{pulse}").into_bytes()
 }
 
 /// An I line, likely at fault in one or both ways.
@@ -445,7 +547,7 @@ fn doubtful_word(dice: &mut Dice, bench: &Bench) -> Vec<u8> {
         _ => dice.pick(&[33, 257, 65_537, u32::MAX]),
     };
     let word = near(dice, 131_071, 60);
-    format!("I,{number},{word}").into_bytes()
+    format!("I,{number},{}", either(dice, 50, word)).into_bytes()
 }
 
 /// An S line, likely at fault.
@@ -461,7 +563,8 @@ fn doubtful_scan(dice: &mut Dice) -> Vec<u8> {
 /// A line of 79 to 82 bytes, LF not counted.
 fn long_line(dice: &mut Dice) -> Vec<u8> {
     let length = dice.within(79, 82) as usize;
-    let mut line = dice.pick(&["S,", "S,1,", "I,1,", "M,1,193,0,500,", "", "x"]).as_bytes().to_vec();
+    let starts = ["S,", "S,1,", "I,1,", "I,1,0x", "M,1,193,0,500,", "", "x"];
+    let mut line = dice.pick(&starts).as_bytes().to_vec();
     let filler = dice.pick(b"0123456789, ,MIS\r");
     while line.len() < length {
         line.push(filler);
@@ -519,20 +622,27 @@ fn lines_of(file: &[u8]) -> Vec<Vec<u8>> {
     file.split_inclusive(|byte| *byte == b'\n').map(<[u8]>::to_vec).collect()
 }
 
+/// Bytes to put into a file.
+const OTHER_BYTES: &[u8] = b"0123456789,\nMIS-+ \r\0\xffxXAFaf";
+
 /// A whole file with something done to it.
 fn damaged(dice: &mut Dice) -> Vec<u8> {
     let most = dice.pick(&[0, 4, 12]);
     let writer = whole(dice, most);
     let mut file = writer.file.clone();
-    match dice.below(17) {
+    match dice.below(29) {
         // A doubtful line at the end, with more after it.
-        0..=6 => {
-            let line = match dice.below(10) {
+        0..=9 => {
+            let mut line = match dice.below(8) {
                 0..=3 => doubtful_motor(dice, &writer.bench),
                 4..=6 => doubtful_word(dice, &writer.bench),
-                7 => doubtful_scan(dice),
-                _ => wrong_line(dice),
+                _ => doubtful_scan(dice),
             };
+            match dice.below(10) {
+                0 | 1 => line = wrong_line(dice),
+                2 => line = wrong_notation(dice, &line),
+                _ => {}
+            }
             file.extend_from_slice(&line);
             if !dice.percent(4) {
                 file.push(b'\n');
@@ -543,7 +653,7 @@ fn damaged(dice: &mut Dice) -> Vec<u8> {
             file
         }
         // A wrong or doubtful line anywhere.
-        7..=8 => {
+        10..=11 => {
             let mut lines = lines_of(&file);
             let place = dice.below(lines.len() as u64 + 1) as usize;
             let mut line = match dice.below(4) {
@@ -555,35 +665,46 @@ fn damaged(dice: &mut Dice) -> Vec<u8> {
             lines.insert(place, line);
             lines.concat()
         }
+        // One field wrong in hexadecimal, the fewer M lines as often as the others.
+        12..=19 if !file.is_empty() => {
+            let mut lines = lines_of(&file);
+            let kind = dice.pick(b"MMMIIS");
+            let of_kind: Vec<usize> = (0..lines.len()).filter(|place| lines[*place][0] == kind).collect();
+            let place = if of_kind.is_empty() { 0 } else { dice.pick(&of_kind) };
+            lines[place].pop();
+            lines[place] = wrong_notation(dice, &lines[place]);
+            lines[place].push(b'\n');
+            lines.concat()
+        }
         // Cut off.
-        9 => {
+        20 => {
             file.truncate(dice.below(file.len() as u64 + 1) as usize);
             file
         }
         // Bytes changed.
-        10..=11 if !file.is_empty() => {
+        21..=22 if !file.is_empty() => {
             for _ in 0..dice.within(1, 3) {
                 let place = dice.below(file.len() as u64) as usize;
                 if dice.percent(50) {
                     file[place] ^= 1 << dice.below(8);
                 } else {
-                    file[place] = dice.pick(b"0123456789,\nMIS-+ \r\0\xff");
+                    file[place] = dice.pick(OTHER_BYTES);
                 }
             }
             file
         }
         // Bytes put in or taken out.
-        12 if !file.is_empty() => {
+        23 if !file.is_empty() => {
             let place = dice.below(file.len() as u64) as usize;
             if dice.percent(50) {
-                file.insert(place, dice.pick(b"0123456789,\nMIS-+ \r\0\xff"));
+                file.insert(place, dice.pick(OTHER_BYTES));
             } else {
                 file.remove(place);
             }
             file
         }
         // Lines doubled, taken out or exchanged.
-        13 if !file.is_empty() => {
+        24 if !file.is_empty() => {
             let mut lines = lines_of(&file);
             let one = dice.below(lines.len() as u64) as usize;
             let other = dice.below(lines.len() as u64) as usize;
@@ -595,7 +716,7 @@ fn damaged(dice: &mut Dice) -> Vec<u8> {
             lines.concat()
         }
         // A full table, and one more.
-        14..=15 => full_table(dice),
+        25..=27 => full_table(dice),
         // No sense at all.
         _ => {
             let length = dice.below(60) as usize;
@@ -608,11 +729,11 @@ fn damaged(dice: &mut Dice) -> Vec<u8> {
 
 /// Thirty-two motors or nearly, then a doubtful M line.
 fn full_table(dice: &mut Dice) -> Vec<u8> {
-    let mut writer = Writer::new();
+    let mut writer = Writer::new(dice);
     let motors = dice.pick(&[30, 31, 32, 32, 32, 32]);
     for _ in 0..motors {
         let settings = settings(dice);
-        writer.motor(settings);
+        writer.motor(dice, settings);
     }
     if dice.percent(20) {
         writer.round(dice, 60, 100);
@@ -631,17 +752,17 @@ fn at_the_limit(dice: &mut Dice, count: u64) -> Vec<u8> {
         6 => FILE_LIMIT - 1,
         _ => FILE_LIMIT + dice.pick(&[2, 100, 4096, 65_536, 131_073]),
     };
-    let mut writer = Writer::new();
+    let mut writer = Writer::new(dice);
     let motors = if count % 16 == 4 { 32 } else { dice.within(0, 2) };
     for _ in 0..motors {
         let settings = settings(dice);
-        writer.motor(settings);
+        writer.motor(dice, settings);
     }
     match dice.below(4) {
         // Played to the end.
         0 => {
-            // A round takes two I lines a motor at most, and an S line.
-            while writer.file.len() + 30 * motors as usize + 20 < length.min(FILE_LIMIT) {
+            // A round takes two I lines a motor at most, of 16 bytes, and an S line.
+            while writer.file.len() + 32 * motors as usize + 20 < length.min(FILE_LIMIT) {
                 writer.round(dice, 60, 100);
             }
         }
@@ -673,7 +794,7 @@ fn at_the_limit(dice: &mut Dice, count: u64) -> Vec<u8> {
 
 /// Long monitoring and pulse times, run down to their very end.
 fn long_times(dice: &mut Dice) -> Vec<u8> {
-    let mut writer = Writer::new();
+    let mut writer = Writer::new(dice);
     for _ in 0..dice.within(1, 3) {
         let [ops_1, ops_2, _, _] = settings(dice);
         let mut long = || dice.pick(&[65_535, 65_536, 131_071, 599_999, 600_000, 600_000]);
@@ -681,7 +802,8 @@ fn long_times(dice: &mut Dice) -> Vec<u8> {
         // A held output has no sum that could grow, however long it stays.
         let held = dice.percent(30);
         let option = if held && dice.percent(50) { 0 } else { 64 };
-        writer.motor([ops_1 & !64 | option, ops_2, wait, if held && option == 64 { 0 } else { pulse }]);
+        let pulse = if held && option == 64 { 0 } else { pulse };
+        writer.motor(dice, [ops_1 & !64 | option, ops_2, wait, pulse]);
     }
     for place in 0..writer.bench.motors.len() {
         let word = dice.pick(&[
@@ -690,7 +812,7 @@ fn long_times(dice: &mut Dice) -> Vec<u8> {
             bit::ON | bit::LZ_OFF,
             bit::OFF | bit::LZ_ON,
         ]);
-        writer.line(format!("I,{},{word}", place + 1));
+        writer.word(dice, place, word);
     }
     writer.line("S,1".to_string());
     for _ in 0..75 {
@@ -705,13 +827,13 @@ fn long_times(dice: &mut Dice) -> Vec<u8> {
     writer.file
 }
 
-/// A file near the greatest length, full of commands.
+/// A file near the greatest length, full of commands, all decimal.
 pub fn rich(seed: u64, motors: u32) -> Vec<u8> {
     let mut dice = Dice::new(seed, 0);
-    let mut writer = Writer::new();
+    let mut writer = Writer::decimal();
     for _ in 0..motors {
         let settings = settings(&mut dice);
-        writer.motor(settings);
+        writer.motor(&mut dice, settings);
     }
     loop {
         let length = writer.file.len();
@@ -737,8 +859,8 @@ pub fn file(seed: u64, index: u64) -> Vec<u8> {
     if index % 50 == 3 {
         return long_times(&mut dice);
     }
-    if dice.percent(64) {
-        let most = dice.pick(&[12, 40, 40, 120]);
+    if dice.percent(60) {
+        let most = if dice.percent(2) { 0 } else { dice.pick(&[12, 40, 40, 120]) };
         whole(&mut dice, most).file
     } else {
         damaged(&mut dice)

@@ -1,7 +1,8 @@
 //! Counts of what happened in the files.
 
 use crate::book::{Book, Entry};
-use crate::file::Done;
+use crate::file::{word, Bench, Done};
+use crate::record::SETTING_LIMITS;
 use crate::rules::{Cause, Command, End, Mode, Reading, Trace, Way};
 use crate::totals::Totals;
 use std::fmt;
@@ -40,6 +41,7 @@ pub struct Tally {
     pub reset: u64,
     pub no_supply: u64,
     pub refused: [u64; 11],
+    pub hexadecimal: Hexadecimal,
     /// T lines by what they have to tell, in the order of [`KINDS`].
     pub told: [u64; KINDS.len()],
 }
@@ -93,6 +95,106 @@ pub const KINDS: [Kind; 19] = [
     ("pretended On", |t| t.pretended_on()),
     ("sure and pretended On", |t| t.totals.on > 0 && t.pretended_on()),
 ];
+
+/// Hexadecimal fields, and those that look like some.
+#[derive(Clone, Copy, Debug, Default)]
+pub struct Hexadecimal {
+    /// Read in an accepted line, by field and number of digits.
+    pub read: [[u64; 8]; WORDS.len()],
+    /// Above the limit in a line refused for that.
+    pub above: [u64; WORDS.len()],
+    /// No word, and nothing else wrong with the text of the line, by field and in
+    /// the order of [`WAYS`].
+    pub wrong: [[u64; WAYS.len()]; WORDS.len()],
+    /// Where only a number may stand, and nothing else wrong with the text.
+    pub elsewhere: [u64; NUMBERS.len()],
+}
+
+/// A field by its name, first field of the line and place in it.
+type Field = (&'static str, &'static [u8], usize);
+
+pub const WORDS: [Field; 3] = [("OPS_1", b"M", 2), ("OPS_2", b"M", 3), ("word", b"I", 2)];
+const WORD_LIMITS: [u32; WORDS.len()] = [SETTING_LIMITS[0], SETTING_LIMITS[1], 131_071];
+pub const NUMBERS: [Field; 5] =
+    [("number of M", b"M", 1), ("W", b"M", 4), ("U", b"M", 5), ("number of I", b"I", 1), ("period", b"S", 1)];
+
+/// What stands after `0x`.
+fn tail(field: &[u8]) -> &[u8] {
+    field.strip_prefix(b"0x").unwrap_or_default()
+}
+
+fn has(field: &[u8], bytes: &[u8]) -> bool {
+    field.iter().any(|byte| bytes.contains(byte))
+}
+
+/// Whether so many digits stand after `0x`, small ones or not, and nothing else.
+fn digits(field: &[u8], count: std::ops::RangeInclusive<usize>) -> bool {
+    count.contains(&tail(field).len()) && tail(field).iter().all(u8::is_ascii_hexdigit)
+}
+
+type WrongWay = (&'static str, fn(&[u8]) -> bool);
+
+/// How a field with an x is no word.
+pub const WAYS: [WrongWay; 12] = [
+    ("all", |_| true),
+    ("small letters", |f| digits(f, 1..=8) && !has(f, b"ABCDEF")),
+    ("small and capital", |f| digits(f, 1..=8) && has(f, b"ABCDEF")),
+    ("0X", |f| f.starts_with(b"0X")),
+    ("no digit", |f| f == b"0x"),
+    ("over eight digits", |f| digits(f, 9..=80) && !tail(f).starts_with(b"0")),
+    ("over eight after a zero", |f| digits(f, 9..=80) && tail(f).starts_with(b"0")),
+    ("sign", |f| has(f, b"+-")),
+    ("blank", |f| has(f, b" ")),
+    ("byte beside the digits", |f| has(tail(f), b"/:@G`g")),
+    ("x at another place", |f| f.iter().position(|byte| b"xX".contains(byte)) != Some(1)),
+    ("x twice", |f| f.iter().filter(|byte| b"xX".contains(byte)).count() > 1),
+];
+
+impl Hexadecimal {
+    /// A line that was accepted or refused, without its LF.
+    fn count(&mut self, line: &[u8], result: &Result<Done, u32>) {
+        let fields: Vec<&[u8]> = line.split(|byte| *byte == b',').collect();
+        let field = |(_, first, place): &Field| fields.get(*place).filter(|_| fields[0] == *first);
+        // Whether the text of the line is good with another field there.
+        let alone = |(_, _, place): &Field| {
+            let mut mended = fields.clone();
+            mended[*place] = b"0";
+            !matches!(Bench::default().take(&mended.join(&b','), true), Err(5))
+        };
+        for (kind, place) in WORDS.iter().enumerate() {
+            let Some(field) = field(place) else { continue };
+            let value = word(field);
+            match result {
+                Ok(_) if field.starts_with(b"0x") => self.read[kind][tail(field).len() - 1] += 1,
+                Err(3 | 4) if field.starts_with(b"0x") && value > Some(WORD_LIMITS[kind]) => {
+                    self.above[kind] += 1;
+                }
+                Err(5) if has(field, b"xX") && value.is_none() && alone(place) => {
+                    for (count, (_, shows)) in self.wrong[kind].iter_mut().zip(WAYS) {
+                        *count += u64::from(shows(field));
+                    }
+                }
+                _ => {}
+            }
+        }
+        for (count, place) in self.elsewhere.iter_mut().zip(NUMBERS) {
+            let wrong = |field: &&[u8]| field.starts_with(b"0x") && word(field).is_some() && alone(&place);
+            *count += u64::from(field(&place).is_some_and(wrong));
+        }
+    }
+
+    fn add(&mut self, other: &Hexadecimal) {
+        each(self.read.as_flattened_mut(), other.read.as_flattened());
+        each(&mut self.above, &other.above);
+        each(self.wrong.as_flattened_mut(), other.wrong.as_flattened());
+        each(&mut self.elsewhere, &other.elsewhere);
+    }
+}
+
+/// Adds list to list.
+fn each(sum: &mut [u64], more: &[u64]) {
+    sum.iter_mut().zip(more).for_each(|(a, b)| *a += b);
+}
 
 /// Readings unsure in one way, by what step 5 meets.
 #[derive(Clone, Copy, Debug, Default)]
@@ -193,7 +295,8 @@ impl Tally {
     }
 
     /// A line as [`crate::file::run_watched`] tells of it.
-    pub fn line(&mut self, result: &Result<Done, u32>) {
+    pub fn line(&mut self, line: &[u8], result: &Result<Done, u32>) {
+        self.hexadecimal.count(line, result);
         match result {
             Ok(Done::Scan(_, traces)) => {
                 self.scans += 1;
@@ -221,9 +324,6 @@ impl Tally {
     }
 
     pub fn add(&mut self, other: &Tally) {
-        fn each(sum: &mut [u64], more: &[u64]) {
-            sum.iter_mut().zip(more).for_each(|(a, b)| *a += b);
-        }
         each(&mut self.issued, &other.issued);
         each(&mut self.confirmed, &other.confirmed);
         each(&mut self.displaced, &other.displaced);
@@ -233,6 +333,7 @@ impl Tally {
         each(&mut self.dropped, &other.dropped);
         each(&mut self.refused, &other.refused);
         each(&mut self.told, &other.told);
+        self.hexadecimal.add(&other.hexadecimal);
         self.files += other.files;
         self.whole += other.whole;
         self.cut_short += other.cut_short;
@@ -325,6 +426,31 @@ impl fmt::Display for Tally {
         write!(f, "  refusals              ")?;
         for refusal in [1, 2, 3, 4, 5, 7, 8, 9, 10] {
             write!(f, " {refusal}:{}", self.refused[refusal])?;
+        }
+        writeln!(f)?;
+        let Hexadecimal { read, above, wrong, elsewhere } = &self.hexadecimal;
+        for (kind, (name, _, _)) in WORDS.iter().enumerate() {
+            let title = format!("{name} in hexadecimal");
+            writeln!(
+                f,
+                "  {title:<22} read:{} above the limit:{}",
+                read[kind].iter().sum::<u64>(),
+                above[kind]
+            )?;
+            write!(f, "  {:<22}", "  by digits")?;
+            for (place, count) in read[kind].iter().enumerate() {
+                write!(f, " {}:{count}", place + 1)?;
+            }
+            writeln!(f)?;
+            write!(f, "  {:<22}", "  wrong")?;
+            for (count, (way, _)) in wrong[kind].iter().zip(WAYS) {
+                write!(f, " {way}:{count}")?;
+            }
+            writeln!(f)?;
+        }
+        write!(f, "  {:<22}", "numbers in hexadecimal")?;
+        for (count, (name, _, _)) in elsewhere.iter().zip(NUMBERS) {
+            write!(f, " {name}:{count}")?;
         }
         writeln!(f)?;
         for (row, (counts, kinds)) in self.told.chunks(7).zip(KINDS.chunks(7)).enumerate() {

@@ -6,7 +6,7 @@ use motor_model::file::{run, run_watched, Bench, Done};
 use motor_model::record::Record;
 use motor_model::rules::scan_one;
 use motor_model::story::{self, Dice};
-use motor_model::tally::{Tally, KINDS};
+use motor_model::tally::{Tally, KINDS, NUMBERS, WAYS, WORDS};
 use motor_model::{fast, shrink};
 
 /// After every scan each record has what its book has, and the bound on every
@@ -146,9 +146,9 @@ fn the_files_are_rich() {
     let mut tally = Tally::default();
     for index in 0..5000 {
         let (file, long) = (story::file(1, index), story::is_long(index));
-        let (print, books) = run_watched(&file, |_, result| match long {
+        let (print, books) = run_watched(&file, |line, result| match long {
             true => tally.refusal(result),
-            false => tally.line(result),
+            false => tally.line(line, result),
         });
         tally.file(file.len(), &print, books.as_deref(), long);
     }
@@ -172,6 +172,21 @@ fn the_files_are_rich() {
         assert!(*count > 100, "{title}: {count}");
     }
     assert!(tally.cut_short > 300, "{}", tally.cut_short);
+    // Words in hexadecimal: read in each number of digits, above the limit, wrong in
+    // each way, and where there should be a number.
+    let hexadecimal = tally.hexadecimal;
+    for (kind, (name, ..)) in WORDS.iter().enumerate() {
+        let (read, above) = (hexadecimal.read[kind], hexadecimal.above[kind]);
+        assert!(read.iter().all(|count| *count > 20), "{name}: {read:?}");
+        assert!(above > 10, "{name}: {above}");
+        for (count, (way, _)) in hexadecimal.wrong[kind].iter().zip(WAYS) {
+            assert!(*count > 2, "{name}, {way}: {count}");
+        }
+        assert!(hexadecimal.wrong[kind][0] > 60, "{name}");
+    }
+    for (count, (name, ..)) in hexadecimal.elsewhere.iter().zip(NUMBERS) {
+        assert!(*count > 15, "{name}: {count}");
+    }
 }
 
 #[test]

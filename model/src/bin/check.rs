@@ -1,14 +1,14 @@
 //! `check PROGRAM [--files N] [--seed S]`: the program against the model, on
 //! the sheets of the paper, on files with line ends at each of the first
-//! places, and then on random files.
+//! places, on files with each way of writing a word, and then on random files.
 
-use motor_model::ends;
 use motor_model::file::{run, run_watched};
 use motor_model::outside::{legible, Outcome, Program, TOO_SLOW};
 use motor_model::paper::{more_sheets, sheets};
 use motor_model::shrink::shrink;
 use motor_model::story;
 use motor_model::tally::Tally;
+use motor_model::{ends, words};
 use std::process::ExitCode;
 use std::sync::atomic::{AtomicU64, Ordering};
 use std::sync::Mutex;
@@ -110,17 +110,18 @@ fn check_sheets(program: &Program) -> bool {
     good
 }
 
-/// The files with line ends at each of the first places: how many there are, and
-/// how many of them have no refused line; or the first that differs.
-fn check_ends(program: &Program) -> Result<(usize, usize), Vec<u8>> {
-    let files = ends::files(sheets()[0].file.as_bytes());
+/// Files made one by one, and whether all agree: tells how many there are and how
+/// many of them have no refused line, or reports the first that differs.
+fn check_list(program: &Program, title: &str, files: &[Vec<u8>]) -> bool {
     if let Some(file) = files.iter().find(|file| differs(program, file)) {
-        return Err(file.clone());
+        report(program, &format!("a file of {title}"), file);
+        return false;
     }
     let refused = |print: &[u8]| print.split(|byte| *byte == b'\n').any(|line| line.starts_with(b"E,"));
     let whole = files.iter().filter(|file| !refused(&run(file))).count();
-    assert!(whole > 0, "every file of line ends is refused, so that none shows where they are");
-    Ok((files.len(), whole))
+    assert!(whole > 0, "every file of {title} is refused, so that none shows what was read");
+    println!("{title}: {} files agree, {whole} of them without a refused line", files.len());
+    true
 }
 
 /// The random files, on all processors; the first that differs, if any.
@@ -140,11 +141,11 @@ fn check_files(program: &Program, wish: &Wish, total: &mut Tally) -> Option<u64>
                     }
                     let file = story::file(wish.seed, index);
                     let long = story::is_long(index);
-                    let (print, books) = run_watched(&file, |_, result| {
+                    let (print, books) = run_watched(&file, |line, result| {
                         if long {
                             tally.refusal(result);
                         } else {
-                            tally.line(result);
+                            tally.line(line, result);
                         }
                     });
                     tally.file(file.len(), &print, books.as_deref(), long);
@@ -176,12 +177,9 @@ fn main() -> ExitCode {
         println!("the sheets differ");
         return ExitCode::from(1);
     }
-    match check_ends(&program) {
-        Ok((all, whole)) => println!("line ends: {all} files agree, {whole} of them without a refused line"),
-        Err(file) => {
-            report(&program, "a file of line ends", &file);
-            return ExitCode::from(1);
-        }
+    let line_ends = ends::files(sheets()[0].file.as_bytes());
+    if !check_list(&program, "line ends", &line_ends) || !check_list(&program, "words", &words::files()) {
+        return ExitCode::from(1);
     }
     let mut tally = Tally::default();
     if let Some(index) = check_files(&program, &wish, &mut tally) {

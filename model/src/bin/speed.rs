@@ -54,12 +54,13 @@ fn scans_only() -> Vec<u8> {
     file
 }
 
-/// Input words for one motor after another, as many as fit, and no scan.
-fn words_only(motors: usize) -> Vec<u8> {
+/// Input words for one motor after another, written so, as many as fit, and no
+/// scan.
+fn words_only(motors: usize, written: impl Fn(usize) -> String) -> Vec<u8> {
     let mut file: Vec<u8> =
         (1..=motors).flat_map(|k| format!("M,{k},193,0,500,300\n").into_bytes()).collect();
     for turn in 0.. {
-        let line = format!("I,{},{}\n", turn % motors + 1, 4096 + turn % 64);
+        let line = format!("I,{},{}\n", turn % motors + 1, written(4096 + turn % 64));
         if file.len() + line.len() > 65_536 {
             break;
         }
@@ -71,19 +72,23 @@ fn words_only(motors: usize) -> Vec<u8> {
 /// Each kind of file for 32 motors and, where a line of it costs the same
 /// whatever the number of motors, for one.
 fn cases() -> Vec<Case> {
+    let decimal = |word: usize| word.to_string();
+    let hexadecimal = |word: usize| format!("0x{word:X}");
     vec![
         Case { title: "scans only, 32 motors", file: scans_only() },
         Case { title: "many commands, 32 motors", file: story::rich(5, 32) },
         Case { title: "many commands, 1 motor", file: story::rich(5, 1) },
-        Case { title: "words only, 32 motors", file: words_only(32) },
-        Case { title: "words only, 1 motor", file: words_only(1) },
+        Case { title: "words only, 32 motors", file: words_only(32, decimal) },
+        Case { title: "words only, 1 motor", file: words_only(1, decimal) },
+        Case { title: "words in hexadecimal, 32 motors", file: words_only(32, hexadecimal) },
+        Case { title: "words in hexadecimal, 1 motor", file: words_only(1, hexadecimal) },
     ]
 }
 
 /// What the program takes for a line read or printed, by the number of motors.
 fn by_motors(times: &[f64]) {
     println!("\nprocessor time without start, a line read or printed, 1 motor against 32:");
-    for (kind, pair) in ["many commands", "words only"].iter().zip(times[1..].chunks(2)) {
+    for (kind, pair) in ["many commands", "words only", "hexadecimal"].iter().zip(times[1..].chunks(2)) {
         let (many, one) = (pair[0] * 1e9, pair[1] * 1e9);
         println!("    {kind:<14} {one:.1} ns against {many:.1} ns, ratio {:.3}", one / many);
     }
