@@ -4,16 +4,14 @@ use Prim.Native.Nat.{ℕ}
 use mathlib.Core.Path.{_≡_, refl, sym, ap, _∙_}
 use mathlib.Core.Bool.{Bool, true, false, false≢true}
 use mathlib.Core.List.{List, [], _∷_, _++_, map}
-use native.Mathlib.Omega.{arith}
 use lib.Dec.{eqb}
 use lib.ListN.{length}
 use borrow.Author.Tests.{eqb-true, eqb-false, eq-eqb}
 use Rattle.words.specs.Word.{if_then_else_}
 use Rattle.sheet.specs.Lines.{Text, linesOf}
-use Rattle.sheet.specs.Grammar.{textRequest, requestsOf, requestRefusal}
+use Rattle.sheet.specs.Grammar.{textRequest, requestsOf}
 use Rattle.sheet.specs.DecimalWords.{decimalText, decimalRequests, textHasHex}
 use Rattle.sheet.specs.declared.Request.{Request}
-use Rattle.sheet.specs.declared.Request.the-variants.{Refused}
 use Rattle.sheet.proofs.DecimalLaws.{same-text, made-text}
 use Rattle.report.specs.Print.{refusalOf}
 use Rattle.interpreter.specs.State.{State, emptyState, nextNumber, refusalFor, changed}
@@ -22,7 +20,7 @@ use Rattle.interpreter.specs.Print.{answerOf, totalsPrint, printFrom, to
 use Rattle.interpreter.specs.DecimalWords.{decimalPrint, noHexFrom, noHexRead}
 use Rattle.interpreter.proofs.PrintLaws.{from-accepted, from-refused, not-accepted}
 use Rattle.interpreter.proofs.Shape.{Accepts}
-use Rattle.interpreter.proofs.Shape.Accepts.{no-more, one-more}
+use Rattle.interpreter.proofs.Shape.Accepts.{one-more}
 
 -- ---- the prints agree line by line; what is printed at the end counts only if all requests agree
 

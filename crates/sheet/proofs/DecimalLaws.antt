@@ -1,6 +1,6 @@
 -- A line without a word in hexadecimal makes the request that it made before change request 4; so does each line that made one then. Assumes nothing.
 use Prim.Native.Nat.{ℕ}
-use mathlib.Core.Path.{_≡_, refl, sym, _∙_}
+use mathlib.Core.Path.{_≡_, refl, sym}
 use mathlib.Core.Logic.{_⊎_, inl, inr}
 use mathlib.Core.Bool.{Bool, true, false, _||_, false≢true}
 use mathlib.Core.List.{List}
@@ -14,7 +14,6 @@ use Rattle.sheet.specs.Grammar.{letter-M, letter-I, isKind, numberIn, wo
 use Rattle.sheet.specs.DecimalWords.{decimalMotor, decimalInput, decimalRequest, decimalText, hasHex, textHasHex}
 use Rattle.sheet.specs.declared.Number.{Number}
 use Rattle.sheet.specs.declared.Number.the-variants.{Value, Refused as NoNumber}
-use Rattle.sheet.specs.declared.Request.{Request}
 use Rattle.sheet.specs.declared.Request.the-variants.{Refused}
 use Rattle.sheet.proofs.WordFieldLaws.{number-no-hex}
 

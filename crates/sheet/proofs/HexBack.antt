@@ -8,14 +8,14 @@ use native.Mathlib.Nat.{pow-zero, pow-suc}
 use lib.ListN.{length, take, drop, getD, length-append, length-drop}
 use lib.Seq.{length-take-le}
 use lib.Dec.{leb, ltb}
-use borrow.Author.Tests.{le-leb, lt-leb, le-ltb, lt-ltb, ltb-true}
+use borrow.Author.Tests.{le-leb, le-ltb, lt-ltb, ltb-true}
 use Rattle.words.specs.Word.{if_then_else_}
 use Rattle.words.proofs.Laws.{agree-at, both-le}
 use Rattle.sheet.specs.Number.{isDigit}
 use Rattle.sheet.specs.WordField.{hexDigit, hexFrom, hexNumber, mostHexDigits, isHex, wordOf, hexDigitOf, hexDigitsOf, hexadecimal}
 use Rattle.sheet.specs.declared.Number.the-variants.{Value, Refused}
 use Rattle.sheet.proofs.SplitLaws.{last-byte}
-use Rattle.sheet.proofs.WordFieldLaws.{HexSays, hex-says, hex-field}
+use Rattle.sheet.proofs.WordFieldLaws.{hex-says, hex-field}
 
 -- ---- one digit, both ways
 

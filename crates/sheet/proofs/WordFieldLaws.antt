@@ -1,22 +1,22 @@
 -- Laws of hexadecimal digits and of the words that fields say. Assumes nothing.
 use Prim.Native.Nat.{ℕ, suc, _+_, _-_, _*_, _<_, _≤_, _^_}
 use mathlib.Core.Path.{_≡_, refl, sym, ap, _∙_}
-use mathlib.Core.Bool.{Bool, true, false, _&&_, _||_, and-false, false≢true}
-use mathlib.Core.List.{List, [], _∷_, _++_}
+use mathlib.Core.Bool.{Bool, true, false, _&&_, and-false}
+use mathlib.Core.List.{List, [], _∷_}
 use native.Mathlib.Decide.{decLe}
 use native.Mathlib.Omega.{arith}
 use native.Mathlib.Nat.{pow-le-pow-right}
 use lib.ListN.{length, drop, getD, drop-of-length-le}
 use lib.Seq.{drop-cons}
 use lib.Dec.{eqb, leb, ltb, lit<}
-use borrow.Author.Tests.{le-leb, lt-leb, eq-eqb, ne-eqb, le-ltb, lt-ltb, leb-true, ltb-true, eqb-true, eqb-false}
+use borrow.Author.Tests.{lt-leb, ne-eqb, le-ltb, lt-ltb, ltb-true, eqb-true}
 use Rattle.words.specs.Word.{if_then_else_}
-use Rattle.words.proofs.Laws.{and-true, both-le}
+use Rattle.words.proofs.Laws.{and-true, both-le, agree-at}
 use Rattle.sheet.specs.Split.{indexOf}
-use Rattle.sheet.specs.Number.{largest, isDigit, leadingZero, numberOf}
+use Rattle.sheet.specs.Number.{isDigit, numberOf}
 use Rattle.sheet.specs.WordField.{hexDigit, hexFrom, hexNumber, mostHexDigits, isHex, wordOf}
 use Rattle.sheet.specs.declared.Number.the-variants.{Value, Refused}
-use Rattle.sheet.proofs.NumberLaws.{zero-number, number-spells, digits-free}
+use Rattle.sheet.proofs.NumberLaws.{number-spells, digits-free}
 
 -- ---- one byte read, and all of them
 
@@ -69,30 +69,7 @@ pub number-word : (s : List ℕ) (n : ℕ) → numberOf s ≡ Value n → wordOf
 unfolding wordOf if_then_else_
 number-word s n e = rw (number-no-hex s n e) e
 
--- ---- a word has no comma, no LF and no other byte below the digits
-
-low : (b : ℕ) → b < 48 → hexDigit b ≡ 16
-unfolding hexDigit isDigit if_then_else_
-low b h = rw (lt-leb 48 b h, lt-leb 65 b (omega arith))
-
-digit-from : (b : ℕ) → hexDigit b < 16 → 48 ≤ b
-digit-from b h = go (decLe 48 b)
-  where
-    go : Dec (48 ≤ b) → 48 ≤ b
-    go (yes l) = l
-    go (no l) = absurd (omega (arith, low b (omega arith)))
-
-hex-free : (b : ℕ) (s : List ℕ) (v n : ℕ) → b < 48 → hexFrom v s ≡ Value n → indexOf b s ≡ length s
-unfolding hexFrom indexOf if_then_else_
-hex-free b [] v n h e = refl
-hex-free b (x ∷ s) v n h e = go (ltb (hexDigit x) 16) refl e (hex-free b s (v * 16 + hexDigit x) n h)
-  where
-    go : (t : Bool) → ltb (hexDigit x) 16 ≡ t → (if t then hexFrom (v * 16 + hexDigit x) s else Refused) ≡ Value n
-        → (hexFrom (v * 16 + hexDigit x) s ≡ Value n → indexOf b s ≡ length s) → (if eqb x b then 0 else suc (indexOf b s)) ≡ suc (length s)
-    go false f e ih = let c : _≡_ {A = ℕ} 0 1 = cc in absurd (omega arith)
-    go true f e ih =
-        let l = digit-from x (ltb-true (hexDigit x) 16 f) in
-        rw (ne-eqb x b (λ g. omega arith)) (ap suc (ih e))
+-- ---- what the field of a word is
 
 -- the digits behind 0x, as many as there may be
 pub record HexSays (digits : List ℕ) (n : ℕ) : Type 0 where
@@ -127,6 +104,31 @@ word-some s n e = go (word-is s n e)
     go : WordIs s n → 0 < length s
     go (decimal f d) = number-spells s n d .0 .some
     go (hex f d) = omega (arith, ap length f)
+
+-- ---- a word has no comma, no LF and no other byte below the digits
+
+low : (b : ℕ) → b < 48 → hexDigit b ≡ 16
+unfolding hexDigit isDigit if_then_else_
+low b h = agree-at hexDigit (λ n. 16) 48 refl b h
+
+digit-from : (b : ℕ) → hexDigit b < 16 → 48 ≤ b
+digit-from b h = go (decLe 48 b)
+  where
+    go : Dec (48 ≤ b) → 48 ≤ b
+    go (yes l) = l
+    go (no l) = absurd (omega (arith, low b (omega arith)))
+
+hex-free : (b : ℕ) (s : List ℕ) (v n : ℕ) → b < 48 → hexFrom v s ≡ Value n → indexOf b s ≡ length s
+unfolding hexFrom indexOf if_then_else_
+hex-free b [] v n h e = refl
+hex-free b (x ∷ s) v n h e = go (ltb (hexDigit x) 16) refl e (hex-free b s (v * 16 + hexDigit x) n h)
+  where
+    go : (t : Bool) → ltb (hexDigit x) 16 ≡ t → (if t then hexFrom (v * 16 + hexDigit x) s else Refused) ≡ Value n
+        → (hexFrom (v * 16 + hexDigit x) s ≡ Value n → indexOf b s ≡ length s) → (if eqb x b then 0 else suc (indexOf b s)) ≡ suc (length s)
+    go false f e ih = let c : _≡_ {A = ℕ} 0 1 = cc in absurd (omega arith)
+    go true f e ih =
+        let l = digit-from x (ltb-true (hexDigit x) 16 f) in
+        rw (ne-eqb x b (λ g. omega arith)) (ap suc (ih e))
 
 pub word-free : (b : ℕ) (s : List ℕ) (n : ℕ) → b < 48 → wordOf s ≡ Value n → indexOf b s ≡ length s
 unfolding indexOf isDigit if_then_else_

@@ -1,5 +1,4 @@
-use mathlib.Core.Path.{_≡_, _∙_, sym, ap}
-use mathlib.Core.List.{List}
+use mathlib.Core.Path.{_∙_, sym, ap}
 use borrow.Author.Needs.{needs}
 use Rattle.sheet.specs.WordField.{wordOf}
 use Rattle.sheet.specs.Places.{Read}

@@ -8,14 +8,18 @@ use Rattle.sheet.proofs.word_fields.hex_digit.Statement.{statement}
 use Rattle.sheet.proofs.word_fields.hex_digit.Tie as tie
 
 sub-result : tie.Need-sub-result
-sub-result c = omega (arith, both-le {a = 48} {b = c .before .before .args .b} {c = c .before .before .args .b} {d = 57} (c .before .if1 .taken) .0, c .wide .ensures)
+sub-result c =
+    let b = c .before .before .args .b in
+    omega (arith, both-le {a = 48} {b = b} {c = b} {d = 57} (c .before .if1 .taken) .0, c .wide .ensures)
 
 returns : tie.Need-returns
 unfolding hexDigit isDigit if_then_else_
 returns c = rw (c .before .if1 .taken, c .wide .ensures)
 
 sub-result-2 : tie.Need-sub-result-2
-sub-result-2 c = omega (arith, both-le {a = 65} {b = c .before .before .before .args .b} {c = c .before .before .before .args .b} {d = 70} (c .before .if2 .taken) .0, c .wide2 .ensures)
+sub-result-2 c =
+    let b = c .before .before .before .args .b in
+    omega (arith, both-le {a = 65} {b = b} {c = b} {d = 70} (c .before .if2 .taken) .0, c .wide2 .ensures)
 
 returns-2 : tie.Need-returns-2
 unfolding hexDigit isDigit if_then_else_

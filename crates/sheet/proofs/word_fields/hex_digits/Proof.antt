@@ -1,16 +1,16 @@
-use Prim.Native.Nat.{ℕ, suc, _-_, _*_, _+_, _^_, _≤_, _<_}
-use mathlib.Core.Path.{_≡_, sym, _∙_, refl}
+use Prim.Native.Nat.{ℕ, _-_, _^_, _≤_, _<_}
+use mathlib.Core.Path.{_≡_, sym, _∙_}
 use mathlib.Core.Bool.{_&&_}
 use native.Mathlib.Omega.{arith}
 use native.Mathlib.Nat.{pow-zero, pow-suc}
 use native.Mathlib.Numerals.{add-one}
-use lib.ListN.{length, drop, getD}
+use lib.ListN.{length, drop}
 use lib.Dec.{leb}
 use borrow.Author.Needs.{needs}
 use borrow.Author.Tests.{not-false, not-true}
 use Rattle.words.specs.Word.{if_then_else_}
 use Rattle.words.proofs.Laws.{both-le}
-use Rattle.sheet.specs.WordField.{hexDigit, hexFrom, hexNumber, mostHexDigits}
+use Rattle.sheet.specs.WordField.{hexFrom, hexNumber, mostHexDigits}
 use Rattle.sheet.proofs.WordFieldLaws.{hex-step, hex-other, hex-past, hex-fits}
 use Rattle.sheet.proofs.word_fields.hex_digits.Statement.{statement}
 use Rattle.sheet.proofs.word_fields.hex_digits.Tie as tie

@@ -1,9 +1,9 @@
+use mathlib.Core.Path.{sym, refl}
 use borrow.Author.Needs.{needs}
 use Rattle.sheet.specs.WordField.{isHex}
 use Rattle.sheet.proofs.WordFieldLaws.{short-no-hex}
 use Rattle.sheet.proofs.word_fields.is_hex.Statement.{statement}
 use Rattle.sheet.proofs.word_fields.is_hex.Tie as tie
-use mathlib.Core.Path.{sym, refl}
 
 returns : tie.Need-returns
 returns c = sym (short-no-hex (c .before .args .field .now) (c .if1 .taken))
