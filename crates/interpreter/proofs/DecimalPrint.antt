@@ -1,46 +1,45 @@
--- Files that were read to their end, or to a refusal other than that of a hexadecimal word, before change request 4 print what they printed then.
--- Assumes nothing.
+-- Change request 4 leaves the prints of other files as they were: those of which no line that was read has a word field that begins with 0x, and all
+-- that were accepted. Assumes nothing.
 use Prim.Native.Nat.{ℕ}
 use mathlib.Core.Path.{_≡_, refl, sym, ap, _∙_}
 use mathlib.Core.Bool.{Bool, true, false, false≢true}
 use mathlib.Core.List.{List, [], _∷_, _++_, map}
 use lib.Dec.{eqb}
 use lib.ListN.{length}
-use borrow.Author.Tests.{eqb-true, eqb-false, eq-eqb}
+use borrow.Author.Tests.{eqb-true, eqb-false}
 use Rattle.words.specs.Word.{if_then_else_}
+use Rattle.words.proofs.Laws.{and-true, either}
 use Rattle.sheet.specs.Lines.{Text, linesOf}
 use Rattle.sheet.specs.Grammar.{textRequest, requestsOf}
-use Rattle.sheet.specs.DecimalWords.{decimalText, decimalRequests, textHasHex}
+use Rattle.sheet.specs.DecimalWords.{decimalText, decimalRequests, textHas0x}
 use Rattle.sheet.specs.declared.Request.{Request}
 use Rattle.sheet.proofs.DecimalLaws.{same-text, made-text}
 use Rattle.report.specs.Print.{refusalOf}
 use Rattle.interpreter.specs.State.{State, emptyState, nextNumber, refusalFor, changed}
 use Rattle.interpreter.specs.Histories.{historiesOf}
 use Rattle.interpreter.specs.Print.{answerOf, totalsPrint, printFrom, tooLong, requestsPrint, printOf}
-use Rattle.interpreter.specs.DecimalWords.{decimalPrint, noHexFrom, noHexRead}
+use Rattle.interpreter.specs.DecimalWords.{decimalPrint, no0xFrom, no0xRead, allAccepted, decimalAccepted}
 use Rattle.interpreter.proofs.PrintLaws.{from-accepted, from-refused, not-accepted}
-use Rattle.interpreter.proofs.Shape.{Accepts}
-use Rattle.interpreter.proofs.Shape.Accepts.{one-more}
 
 -- ---- the prints agree line by line; what is printed at the end counts only if all requests agree
 
 module _ (end before : List ℕ) where
-  print-same : (ls : List Text) (t : State) (k : ℕ) → noHexFrom t ls ≡ true → (map textRequest ls ≡ map decimalText ls → end ≡ before)
+  print-same : (ls : List Text) (t : State) (k : ℕ) → no0xFrom t ls ≡ true → (map textRequest ls ≡ map decimalText ls → end ≡ before)
       → printFrom end (map textRequest ls) t k ≡ printFrom before (map decimalText ls) t k
-  unfolding noHexFrom printFrom if_then_else_
+  unfolding no0xFrom printFrom if_then_else_
   print-same [] t k h f = f refl
   print-same (l ∷ ls) t k h f =
-      go (textHasHex l) refl (eqb (refusalFor t (decimalText l)) 0) refl h (print-same ls (changed t (decimalText l)) (nextNumber k))
+      go (textHas0x l) refl (eqb (refusalFor t (decimalText l)) 0) refl h (print-same ls (changed t (decimalText l)) (nextNumber k))
     where
       r : Request
       r = decimalText l
 
       -- the line makes the request that it made
-      same : textHasHex l ≡ false → (rs : List Request) → printFrom end (textRequest l ∷ rs) t k ≡ printFrom end (r ∷ rs) t k
+      same : textHas0x l ≡ false → (rs : List Request) → printFrom end (textRequest l ∷ rs) t k ≡ printFrom end (r ∷ rs) t k
       same e rs = ap (λ (q : Request). printFrom end (q ∷ rs) t k) (same-text l e)
 
-      go : (x : Bool) → textHasHex l ≡ x → (y : Bool) → eqb (refusalFor t r) 0 ≡ y → (if x then false else if y then noHexFrom (changed t r) ls else true) ≡ true
-          → (noHexFrom (changed t r) ls ≡ true → (map textRequest ls ≡ map decimalText ls → end ≡ before)
+      go : (x : Bool) → textHas0x l ≡ x → (y : Bool) → eqb (refusalFor t r) 0 ≡ y → (if x then false else if y then no0xFrom (changed t r) ls else true) ≡ true
+          → (no0xFrom (changed t r) ls ≡ true → (map textRequest ls ≡ map decimalText ls → end ≡ before)
           → printFrom end (map textRequest ls) (changed t r) (nextNumber k) ≡ printFrom before (map decimalText ls) (changed t r) (nextNumber k))
           → printFrom end (textRequest l ∷ map textRequest ls) t k ≡ printFrom before (r ∷ map decimalText ls) t k
       go true e y g h ih = absurd (false≢true h)
@@ -54,20 +53,28 @@ module _ (end before : List ℕ) where
           ∙ from-refused end r (map textRequest ls) t k (eqb-false (refusalFor t r) 0 g)
           ∙ sym (from-refused before r (map decimalText ls) t k (eqb-false (refusalFor t r) 0 g))
 
-pub prints-as-before : (file : List ℕ) → noHexRead file ≡ true → printOf file ≡ decimalPrint file
-unfolding printOf decimalPrint requestsPrint requestsOf decimalRequests noHexRead
-prints-as-before file h =
-    ap (λ (p : List ℕ). if tooLong (length file) then refusalOf 0 1 else p)
-    (print-same _ _ (linesOf file) emptyState 1 h (ap (λ (rs : List Request). totalsPrint 1 (historiesOf rs))))
+-- A file prints what it prints if words are decimal alone, unless a line that is read then has a word field that begins with 0x.
+pub prints-as-before : (file : List ℕ) → no0xRead file ≡ true → printOf file ≡ decimalPrint file
+unfolding printOf decimalPrint requestsPrint requestsOf decimalRequests no0xRead if_then_else_
+prints-as-before file h = go (tooLong (length file)) h
+  where
+    go : (t : Bool) → (if t then true else no0xFrom emptyState (linesOf file)) ≡ true
+        → (if t then refusalOf 0 1 else requestsPrint (requestsOf file)) ≡ (if t then refusalOf 0 1 else requestsPrint (decimalRequests file))
+    go true h = refl
+    go false h = print-same _ _ (linesOf file) emptyState 1 h (ap (λ (rs : List Request). totalsPrint 1 (historiesOf rs)))
 
--- ---- a file that was accepted, line by line, has no word in hexadecimal
+-- ---- a line that is accepted then has no such field
 
-accepted-no-hex : (ls : List Text) (t : State) → Accepts t (map decimalText ls) → noHexFrom t ls ≡ true
-unfolding noHexFrom if_then_else_
-accepted-no-hex [] t a = refl
-accepted-no-hex (l ∷ ls) t (one-more h a) =
-    rw (made-text l (not-accepted t (decimalText l) h), eq-eqb (refusalFor t (decimalText l)) 0 h) (accepted-no-hex ls (changed t (decimalText l)) a)
+accepted-no-0x : (ls : List Text) (t : State) → allAccepted t (map decimalText ls) ≡ true → no0xFrom t ls ≡ true
+unfolding no0xFrom allAccepted if_then_else_
+accepted-no-0x [] t a = refl
+accepted-no-0x (l ∷ ls) t a =
+    let r = decimalText l in
+    let w = and-true (eqb (refusalFor t r) 0) (allAccepted (changed t r) (map decimalText ls)) a in
+    rw (made-text l (not-accepted t r (eqb-true (refusalFor t r) 0 (w .0))), w .0) (accepted-no-0x ls (changed t r) (w .1))
 
-pub accepted-prints-as-before : (file : List ℕ) → Accepts emptyState (decimalRequests file) → printOf file ≡ decimalPrint file
-unfolding decimalRequests noHexRead
-accepted-prints-as-before file a = prints-as-before file (accepted-no-hex (linesOf file) emptyState a)
+-- A file of which every line is accepted if words are decimal alone prints what it prints then.
+pub accepted-prints-as-before : (file : List ℕ) → decimalAccepted file ≡ true → printOf file ≡ decimalPrint file
+unfolding decimalAccepted decimalRequests no0xRead
+accepted-prints-as-before file a =
+    prints-as-before file (either (λ (b : Bool). b ≡ true) (tooLong (length file)) refl (accepted-no-0x (linesOf file) emptyState a))

@@ -9,7 +9,7 @@ use Rattle.sheet.specs.Opened.{opened as sheet-opened}
 use Rattle.totals.specs.Opened.{opened as totals-opened}
 use Rattle.report.specs.Opened.{opened as report-opened}
 use Rattle.interpreter.specs.Print.{printOf}
-use Rattle.interpreter.specs.DecimalWords.{decimalPrint, noHexRead}
+use Rattle.interpreter.specs.DecimalWords.{decimalPrint, no0xRead, decimalAccepted}
 use Rattle.interpreter.specs.Opened.{opened}
 
 -- M,1,193,0,500,300, I,1,32, S,100, I,1,4128, S,100, I,1,16, S,100
@@ -56,7 +56,7 @@ no-print : printOf [] ≡ []
 unfolding opened rules-opened totals-opened sheet-opened report-opened
 no-print = refl
 
--- ---- the same file with words in hexadecimal (change request 4) prints the same; before, its first line was refused: E,1,5
+-- ---- the same file with words in hexadecimal prints the same; with words decimal alone, as before change request 4, its first line is refused: E,1,5
 
 -- M,1,0xC1,0x00,500,300, I,1,0x20, S,100, I,1,0x00001020, S,100, I,1,16, S,100
 hex-paper : List ℕ
@@ -74,12 +74,12 @@ hex-print : printOf hex-paper ≡ rows ++ totals
 unfolding opened rules-opened totals-opened sheet-opened report-opened hex-paper rows totals
 hex-print = refl
 
-before : (decimalPrint hex-paper ≡ 69 ∷ 44 ∷ 49 ∷ 44 ∷ 53 ∷ 10 ∷ []) × (noHexRead hex-paper ≡ false) × (noHexRead paper ≡ true)
+before : (decimalPrint hex-paper ≡ 69 ∷ 44 ∷ 49 ∷ 44 ∷ 53 ∷ 10 ∷ []) × (no0xRead hex-paper ≡ false) × (decimalAccepted paper ≡ true)
 unfolding opened rules-opened totals-opened sheet-opened report-opened paper hex-paper
 before = (refl, refl, refl)
 
--- A word in hexadecimal behind the line that was refused is not read: M,2,193,0,500,300 and M,1,0xC1,0,500,300
-behind : noHexRead (77 ∷ 44 ∷ 50 ∷ 44 ∷ 49 ∷ 57 ∷ 51 ∷ 44 ∷ 48 ∷ 44 ∷ 53 ∷ 48 ∷ 48 ∷ 44 ∷ 51 ∷ 48 ∷ 48 ∷ 10 ∷
+-- A word in hexadecimal after the line that is refused is not read: M,2,193,0,500,300 and M,1,0xC1,0,500,300
+behind : no0xRead (77 ∷ 44 ∷ 50 ∷ 44 ∷ 49 ∷ 57 ∷ 51 ∷ 44 ∷ 48 ∷ 44 ∷ 53 ∷ 48 ∷ 48 ∷ 44 ∷ 51 ∷ 48 ∷ 48 ∷ 10 ∷
     77 ∷ 44 ∷ 49 ∷ 44 ∷ 48 ∷ 120 ∷ 67 ∷ 49 ∷ 44 ∷ 48 ∷ 44 ∷ 53 ∷ 48 ∷ 48 ∷ 44 ∷ 51 ∷ 48 ∷ 48 ∷ 10 ∷ []) ≡ true
 unfolding opened rules-opened totals-opened sheet-opened report-opened
 behind = refl

@@ -1,13 +1,14 @@
--- What the bench printed before change request 4, when words were decimal alone. The law in proofs/DecimalPrint.antt: a file prints what it printed
--- then, if no line that was read then has a word in hexadecimal; so each file that was accepted does.
+-- What a file prints if words are decimal alone, as before change request 4. The laws in proofs/DecimalPrint.antt: a file prints that still, if no
+-- line that was read then has a word field that begins with 0x; so does each file of which every line was accepted.
 use Prim.Native.Nat.{ℕ}
-use mathlib.Core.Bool.{Bool, true, false}
+use mathlib.Core.Bool.{Bool, true, false, _&&_}
 use mathlib.Core.List.{List, [], _∷_}
 use lib.Dec.{eqb}
 use lib.ListN.{length}
 use Rattle.words.specs.Word.{if_then_else_}
 use Rattle.sheet.specs.Lines.{Text, linesOf}
-use Rattle.sheet.specs.DecimalWords.{decimalText, decimalRequests, textHasHex}
+use Rattle.sheet.specs.DecimalWords.{decimalText, decimalRequests, textHas0x}
+use Rattle.sheet.specs.declared.Request.{Request}
 use Rattle.report.specs.Print.{refusalOf}
 use Rattle.interpreter.specs.State.{State, emptyState, refusalFor, changed}
 use Rattle.interpreter.specs.Print.{tooLong, requestsPrint}
@@ -15,13 +16,22 @@ use Rattle.interpreter.specs.Print.{tooLong, requestsPrint}
 unfoldable pub decimalPrint : List ℕ → List ℕ
 decimalPrint file = if tooLong (length file) then refusalOf 0 1 else requestsPrint (decimalRequests file)
 
--- Lines read one after another as they were then, up to the first that was refused: none of them has a word in hexadecimal
-unfoldable pub noHexFrom : State → List Text → Bool
-noHexFrom t [] = true
-noHexFrom t (l ∷ ls) =
-    if textHasHex l then false
-    else if eqb (refusalFor t (decimalText l)) 0 then noHexFrom (changed t (decimalText l)) ls
+-- Lines read one after another, up to the first that is refused: none of them has such a field
+unfoldable pub no0xFrom : State → List Text → Bool
+no0xFrom t [] = true
+no0xFrom t (l ∷ ls) =
+    if textHas0x l then false
+    else if eqb (refusalFor t (decimalText l)) 0 then no0xFrom (changed t (decimalText l)) ls
     else true
 
-unfoldable pub noHexRead : List ℕ → Bool
-noHexRead file = noHexFrom emptyState (linesOf file)
+-- Of a file that is too long no line is read
+unfoldable pub no0xRead : List ℕ → Bool
+no0xRead file = if tooLong (length file) then true else no0xFrom emptyState (linesOf file)
+
+-- Every line is accepted
+unfoldable pub allAccepted : State → List Request → Bool
+allAccepted t [] = true
+allAccepted t (r ∷ rs) = eqb (refusalFor t r) 0 && allAccepted (changed t r) rs
+
+unfoldable pub decimalAccepted : List ℕ → Bool
+decimalAccepted file = allAccepted emptyState (decimalRequests file)

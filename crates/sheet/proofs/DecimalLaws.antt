@@ -1,4 +1,5 @@
--- A line without a word in hexadecimal makes the request that it made before change request 4; so does each line that made one then. Assumes nothing.
+-- A line of which no word field begins with 0x makes the request that it makes if words are decimal alone; so does each line that makes one then.
+-- Assumes nothing.
 use Prim.Native.Nat.{ℕ}
 use mathlib.Core.Path.{_≡_, refl, sym}
 use mathlib.Core.Logic.{_⊎_, inl, inr}
@@ -9,17 +10,17 @@ use Rattle.words.specs.Word.{if_then_else_}
 use Rattle.sheet.specs.Split.{fieldOf}
 use Rattle.sheet.specs.Lines.{Text, line, faulty}
 use Rattle.sheet.specs.Number.{numberOf}
-use Rattle.sheet.specs.WordField.{isHex, wordOf}
-use Rattle.sheet.specs.Grammar.{letter-M, letter-I, isKind, numberIn, wordIn, withValue, motorFrom, inputFrom, motorOf, inputOf, requestOf, textRequest}
-use Rattle.sheet.specs.DecimalWords.{decimalMotor, decimalInput, decimalRequest, decimalText, hasHex, textHasHex}
+use Rattle.sheet.specs.WordField.{has0x, wordOf}
+use Rattle.sheet.specs.Grammar.{letter-M, letter-I, isKind, numberIn, wordIn, withValue, motorFrom, inputFrom, motorOf, inputOf, scanOf, requestOf, textRequest}
+use Rattle.sheet.specs.DecimalWords.{decimalMotor, decimalInput, decimalScan, decimalRequest, decimalText, lineHas0x, textHas0x}
 use Rattle.sheet.specs.declared.Number.{Number}
 use Rattle.sheet.specs.declared.Number.the-variants.{Value, Refused as NoNumber}
 use Rattle.sheet.specs.declared.Request.the-variants.{Refused}
-use Rattle.sheet.proofs.WordFieldLaws.{number-no-hex}
+use Rattle.sheet.proofs.WordFieldLaws.{number-no-0x}
 
-no-hex : (l : List ℕ) (k : ℕ) → isHex (fieldOf l k) ≡ false → wordIn l k ≡ numberIn l k
+no-0x : (l : List ℕ) (k : ℕ) → has0x (fieldOf l k) ≡ false → wordIn l k ≡ numberIn l k
 unfolding wordIn numberIn wordOf if_then_else_
-no-hex l k e = rw e
+no-0x l k e = rw e
 
 neither : (a b : Bool) → (a || b) ≡ false → (a ≡ false) × (b ≡ false)
 neither false b e = (refl, e)
@@ -27,25 +28,25 @@ neither true b e = absurd (false≢true (sym e))
 
 -- ---- a line without 0x
 
-pub same-request : (l : List ℕ) → hasHex l ≡ false → requestOf l ≡ decimalRequest l
-unfolding hasHex requestOf decimalRequest motorOf inputOf decimalMotor decimalInput if_then_else_
+same-request : (l : List ℕ) → lineHas0x l ≡ false → requestOf l ≡ decimalRequest l
+unfolding lineHas0x requestOf decimalRequest motorOf inputOf scanOf decimalMotor decimalInput decimalScan if_then_else_
 same-request l h = go (isKind letter-M 6 l) refl (isKind letter-I 3 l) refl h
   where
     go : (x : Bool) → isKind letter-M 6 l ≡ x → (y : Bool) → isKind letter-I 3 l ≡ y
-        → (if x then isHex (fieldOf l 2) || isHex (fieldOf l 3) else if y then isHex (fieldOf l 2) else false) ≡ false → requestOf l ≡ decimalRequest l
-    go true e y f h = let n = neither (isHex (fieldOf l 2)) (isHex (fieldOf l 3)) h in rw (e, no-hex l 2 (n .0), no-hex l 3 (n .1))
-    go false e true f h = rw (e, f, no-hex l 2 h)
+        → (if x then has0x (fieldOf l 2) || has0x (fieldOf l 3) else if y then has0x (fieldOf l 2) else false) ≡ false → requestOf l ≡ decimalRequest l
+    go true e y f h = let n = neither (has0x (fieldOf l 2)) (has0x (fieldOf l 3)) h in rw (e, no-0x l 2 (n .0), no-0x l 3 (n .1))
+    go false e true f h = rw (e, f, no-0x l 2 h)
     go false e false f h = rw (e, f)
 
--- ---- a line that made a request
+-- ---- a line that makes a request if words are decimal alone
 
 -- a field whose number is there
-is-value : (l : List ℕ) (k : ℕ) → (numberIn l k ≡ NoNumber → ⊥) → isHex (fieldOf l k) ≡ false
+is-value : (l : List ℕ) (k : ℕ) → (numberIn l k ≡ NoNumber → ⊥) → has0x (fieldOf l k) ≡ false
 unfolding numberIn
 is-value l k h = go (numberOf (fieldOf l k)) refl
   where
-    go : (a : Number) → numberOf (fieldOf l k) ≡ a → isHex (fieldOf l k) ≡ false
-    go (Value n) e = number-no-hex (fieldOf l k) n e
+    go : (a : Number) → numberOf (fieldOf l k) ≡ a → has0x (fieldOf l k) ≡ false
+    go (Value n) e = number-no-0x (fieldOf l k) n e
     go NoNumber e = absurd (h e)
 
 -- numbers of which one is missing make no request
@@ -62,12 +63,12 @@ unfolding inputFrom withValue
 no-input (Value a) = refl
 no-input NoNumber = refl
 
-pub made-no-hex : (l : List ℕ) → (decimalRequest l ≡ Refused → ⊥) → hasHex l ≡ false
-unfolding hasHex decimalRequest decimalMotor decimalInput if_then_else_
-made-no-hex l h = go (isKind letter-M 6 l) refl (isKind letter-I 3 l) refl
+made-no-0x : (l : List ℕ) → (decimalRequest l ≡ Refused → ⊥) → lineHas0x l ≡ false
+unfolding lineHas0x decimalRequest decimalMotor decimalInput if_then_else_
+made-no-0x l h = go (isKind letter-M 6 l) refl (isKind letter-I 3 l) refl
   where
     go : (x : Bool) → isKind letter-M 6 l ≡ x → (y : Bool) → isKind letter-I 3 l ≡ y
-        → (if x then isHex (fieldOf l 2) || isHex (fieldOf l 3) else if y then isHex (fieldOf l 2) else false) ≡ false
+        → (if x then has0x (fieldOf l 2) || has0x (fieldOf l 3) else if y then has0x (fieldOf l 2) else false) ≡ false
     go true e y f =
         rw (
           is-value l 2 (λ g. h (rw e (no-motor _ _ _ _ _ (inl g)))),
@@ -76,14 +77,14 @@ made-no-hex l h = go (isKind letter-M 6 l) refl (isKind letter-I 3 l) refl
     go false e true f = is-value l 2 (λ g. h (rw (e, f, g) (no-input _)))
     go false e false f = refl
 
--- ---- the same of what stands before an LF, or is faulty
+-- ---- the same of a line of a file, which may be faulty
 
-pub same-text : (l : Text) → textHasHex l ≡ false → textRequest l ≡ decimalText l
-unfolding textHasHex textRequest decimalText
+pub same-text : (l : Text) → textHas0x l ≡ false → textRequest l ≡ decimalText l
+unfolding textHas0x textRequest decimalText
 same-text (line l) h = same-request l h
 same-text faulty h = refl
 
-pub made-text : (l : Text) → (decimalText l ≡ Refused → ⊥) → textHasHex l ≡ false
-unfolding textHasHex decimalText
-made-text (line l) h = made-no-hex l h
+pub made-text : (l : Text) → (decimalText l ≡ Refused → ⊥) → textHas0x l ≡ false
+unfolding textHas0x decimalText
+made-text (line l) h = made-no-0x l h
 made-text faulty h = refl

@@ -18,7 +18,7 @@ use Rattle.sheet.specs.WordField.{wordOf}
 use Rattle.sheet.specs.Grammar.{letter-M, letter-I, letter-S, letterOf, isKind, numberIn, wordIn, withValue, motorFrom, inputFrom, scanFrom, motorOf, inputOf, scanOf, requestOf, takenAt, nextAt}
 use Rattle.sheet.specs.Places.{isAt, isDigitAt, beginsWith, endsLine, SaidAt, Read}
 use Rattle.sheet.specs.declared.quick.Figure.{Figure}
-use Rattle.sheet.specs.declared.quick.Figure.the-variants.{Number as Said, Nothing}
+use Rattle.sheet.specs.declared.quick.Figure.the-variants.{Said, Nothing}
 use Rattle.sheet.specs.declared.Number.the-variants.{Value}
 use Rattle.sheet.specs.declared.Line.the-variants.{Until}
 use Rattle.sheet.specs.declared.Request.the-variants.{Motor, Input, Scan}

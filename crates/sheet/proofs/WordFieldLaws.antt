@@ -1,52 +1,103 @@
 -- Laws of hexadecimal digits and of the words that fields say. Assumes nothing.
 use Prim.Native.Nat.{ℕ, suc, _+_, _-_, _*_, _<_, _≤_, _^_}
 use mathlib.Core.Path.{_≡_, refl, sym, ap, _∙_}
-use mathlib.Core.Bool.{Bool, true, false, _&&_, and-false}
+use mathlib.Core.Bool.{Bool, true, false, _&&_, _||_, and-false, false≢true}
 use mathlib.Core.List.{List, [], _∷_}
-use native.Mathlib.Decide.{decLe}
 use native.Mathlib.Omega.{arith}
 use native.Mathlib.Nat.{pow-le-pow-right}
 use lib.ListN.{length, drop, getD, drop-of-length-le}
 use lib.Seq.{drop-cons}
-use lib.Dec.{eqb, leb, ltb, lit<}
-use borrow.Author.Tests.{lt-leb, ne-eqb, le-ltb, lt-ltb, ltb-true, eqb-true}
+use lib.Dec.{eqb, leb, lit<}
+use borrow.Author.Tests.{lt-leb, ne-eqb, eqb-true}
 use Rattle.words.specs.Word.{if_then_else_}
-use Rattle.words.proofs.Laws.{and-true, both-le, agree-at}
+use Rattle.words.proofs.Laws.{and-true, both-le}
 use Rattle.sheet.specs.Split.{indexOf}
 use Rattle.sheet.specs.Number.{isDigit, numberOf}
-use Rattle.sheet.specs.WordField.{hexDigit, hexFrom, hexNumber, mostHexDigits, isHex, wordOf}
+use Rattle.sheet.specs.WordField.{isHexDigit, hexDigit, allHexDigits, hexFrom, isHexCount, hexNumber, has0x, wordOf}
+use Rattle.sheet.specs.declared.Number.{Number}
 use Rattle.sheet.specs.declared.Number.the-variants.{Value, Refused}
 use Rattle.sheet.proofs.NumberLaws.{number-spells, digits-free}
 
--- ---- one byte read, and all of them
+-- ---- digits
 
+pub digit-small : (b : ℕ) → isHexDigit b ≡ true → hexDigit b < 16
+unfolding isHexDigit hexDigit isDigit if_then_else_
+digit-small b h = go (leb 48 b && leb b 57) refl h
+  where
+    go : (t : Bool) → (leb 48 b && leb b 57) ≡ t → (t || (leb 65 b && leb b 70)) ≡ true → (if t then b - 48 else b - 55) < 16
+    go true e h = omega (arith, both-le {a = 48} {b = b} {c = b} {d = 57} e .1)
+    go false e h = omega (arith, both-le {a = 65} {b = b} {c = b} {d = 70} h .1)
+
+-- a byte by its value, or 16
+module _ (b d : ℕ) (e : d ≡ (if isHexDigit b then hexDigit b else 16)) where
+  pub no-digit : 16 ≤ d → isHexDigit b ≡ false
+  unfolding if_then_else_
+  no-digit h = go (isHexDigit b) refl e
+    where
+      go : (t : Bool) → isHexDigit b ≡ t → d ≡ (if t then hexDigit b else 16) → isHexDigit b ≡ false
+      go true f e = absurd (omega (arith, digit-small b f))
+      go false f e = f
+
+  pub a-digit : d < 16 → (isHexDigit b ≡ true) × (d ≡ hexDigit b)
+  unfolding if_then_else_
+  a-digit h = go (isHexDigit b) refl e
+    where
+      go : (t : Bool) → isHexDigit b ≡ t → d ≡ (if t then hexDigit b else 16) → (isHexDigit b ≡ true) × (d ≡ hexDigit b)
+      go true f e = (f, e)
+      go false f e = absurd (omega arith)
+
+-- bytes read one by one, as a loop reads them
+unfoldable pub readOn : ℕ → List ℕ → Number
+readOn v [] = Value v
+readOn v (b ∷ bs) = if isHexDigit b then readOn (v * 16 + hexDigit b) bs else Refused
+
+read-all : (v : ℕ) (s : List ℕ) → readOn v s ≡ (if allHexDigits s then Value (hexFrom v s) else Refused)
+unfolding readOn allHexDigits hexFrom if_then_else_
+read-all v [] = refl
+read-all v (b ∷ s) = go (isHexDigit b) (read-all (v * 16 + hexDigit b) s)
+  where
+    go : (t : Bool) → readOn (v * 16 + hexDigit b) s ≡ (if allHexDigits s then Value (hexFrom (v * 16 + hexDigit b) s) else Refused)
+        → (if t then readOn (v * 16 + hexDigit b) s else Refused) ≡ (if t && allHexDigits s then Value (hexFrom (v * 16 + hexDigit b) s) else Refused)
+    go true ih = ih
+    go false ih = refl
+
+pub hex-read : (s : List ℕ) → hexNumber s ≡ (if isHexCount (length s) then readOn 0 s else Refused)
+unfolding hexNumber if_then_else_
+hex-read s = go (isHexCount (length s)) (read-all 0 s)
+  where
+    go : (t : Bool) → readOn 0 s ≡ (if allHexDigits s then Value (hexFrom 0 s) else Refused)
+        → (if t && allHexDigits s then Value (hexFrom 0 s) else Refused) ≡ (if t then readOn 0 s else Refused)
+    go true e = sym e
+    go false e = refl
+
+-- one byte read, and all of them
 module _ (s : List ℕ) (i : ℕ) (h : i < length s) (v : ℕ) where
-  pub hex-step : hexDigit (getD s i 0) < 16 → hexFrom v (drop i s) ≡ hexFrom (v * 16 + hexDigit (getD s i 0)) (drop (suc i) s)
-  unfolding hexFrom if_then_else_
-  hex-step l = rw (drop-cons s i 0 h, lt-ltb (hexDigit (getD s i 0)) 16 l)
+  pub hex-step : isHexDigit (getD s i 0) ≡ true → readOn v (drop i s) ≡ readOn (v * 16 + hexDigit (getD s i 0)) (drop (suc i) s)
+  unfolding readOn if_then_else_
+  hex-step e = rw (drop-cons s i 0 h, e)
 
-  pub hex-other : 16 ≤ hexDigit (getD s i 0) → hexFrom v (drop i s) ≡ Refused
-  unfolding hexFrom if_then_else_
-  hex-other l = rw (drop-cons s i 0 h, le-ltb (hexDigit (getD s i 0)) 16 l)
+  pub hex-other : isHexDigit (getD s i 0) ≡ false → readOn v (drop i s) ≡ Refused
+  unfolding readOn if_then_else_
+  hex-other e = rw (drop-cons s i 0 h, e)
 
-pub hex-past : (s : List ℕ) (i : ℕ) → length s ≤ i → (v : ℕ) → hexFrom v (drop i s) ≡ Value v
-unfolding hexFrom
+pub hex-past : (s : List ℕ) (i : ℕ) → length s ≤ i → (v : ℕ) → readOn v (drop i s) ≡ Value v
+unfolding readOn
 hex-past s i h v = rw (drop-of-length-le s h)
 
 -- eight digits say a number of 32 bits
-pub hex-fits : (k : ℕ) → k ≤ mostHexDigits → 16 ^ k ≤ 4294967296
+pub hex-fits : (k : ℕ) → k ≤ 8 → 16 ^ k ≤ 4294967296
 hex-fits k h = pow-le-pow-right (lit< tt) h
 
 -- ---- 0x
 
-pub short-no-hex : (s : List ℕ) → length s < 2 → isHex s ≡ false
-unfolding isHex
-short-no-hex [] h = refl
-short-no-hex (x ∷ []) h = rw (ne-eqb 0 120 (λ e. omega arith)) (and-false (eqb x 48))
-short-no-hex (x ∷ y ∷ s) h = absurd (omega arith)
+pub short-no-0x : (s : List ℕ) → length s < 2 → has0x s ≡ false
+unfolding has0x
+short-no-0x [] h = refl
+short-no-0x (x ∷ []) h = rw (ne-eqb 0 120 (λ e. omega arith)) (and-false (eqb x 48))
+short-no-0x (x ∷ y ∷ s) h = absurd (omega arith)
 
-pub hex-field : (s : List ℕ) → isHex s ≡ true → s ≡ 48 ∷ 120 ∷ drop 2 s
-unfolding isHex
+pub hex-field : (s : List ℕ) → has0x s ≡ true → s ≡ 48 ∷ 120 ∷ drop 2 s
+unfolding has0x
 hex-field s e = let w = and-true (eqb (getD s 0 0) 48) (eqb (getD s 1 0) 120) e in go s (eqb-true _ _ (w .0)) (eqb-true _ _ (w .1))
   where
     go : (s : List ℕ) → getD s 0 0 ≡ 48 → getD s 1 0 ≡ 120 → s ≡ 48 ∷ 120 ∷ drop 2 s
@@ -54,11 +105,11 @@ hex-field s e = let w = and-true (eqb (getD s 0 0) 48) (eqb (getD s 1 0) 120) e 
     go (x ∷ []) a b = absurd (omega arith)
     go (x ∷ y ∷ s) a b = rw (a, b)
 
--- a field that is a number is not hexadecimal, so its word is that number
-pub number-no-hex : (s : List ℕ) (n : ℕ) → numberOf s ≡ Value n → isHex s ≡ false
-number-no-hex s n e = go (isHex s) refl
+-- a field that is a number does not begin so, and its word is that number
+pub number-no-0x : (s : List ℕ) (n : ℕ) → numberOf s ≡ Value n → has0x s ≡ false
+number-no-0x s n e = go (has0x s) refl
   where
-    go : (t : Bool) → isHex s ≡ t → isHex s ≡ false
+    go : (t : Bool) → has0x s ≡ t → has0x s ≡ false
     go false f = f
     go true f =
         let g = hex-field s f in
@@ -67,76 +118,60 @@ number-no-hex s n e = go (isHex s) refl
 
 pub number-word : (s : List ℕ) (n : ℕ) → numberOf s ≡ Value n → wordOf s ≡ Value n
 unfolding wordOf if_then_else_
-number-word s n e = rw (number-no-hex s n e) e
+number-word s n e = rw (number-no-0x s n e) e
 
--- ---- what the field of a word is
+-- ---- what the field of a word is: a number, or 0x and digits
 
--- the digits behind 0x, as many as there may be
-pub record HexSays (digits : List ℕ) (n : ℕ) : Type 0 where
-  pub some : 1 ≤ length digits
-  pub few : length digits ≤ mostHexDigits
-  pub value : hexFrom 0 digits ≡ Value n
-
-pub hex-says : (s : List ℕ) (n : ℕ) → hexNumber s ≡ Value n → HexSays s n
-unfolding hexNumber if_then_else_
-hex-says s n e = go (leb 1 (length s) && leb (length s) mostHexDigits) refl e
+pub hex-says : (s : List ℕ) (n : ℕ) → hexNumber s ≡ Value n → readOn 0 s ≡ Value n
+unfolding if_then_else_
+hex-says s n e = go (isHexCount (length s)) (sym (hex-read s) ∙ e)
   where
-    go : (t : Bool) → (leb 1 (length s) && leb (length s) mostHexDigits) ≡ t → (if t then hexFrom 0 s else Refused) ≡ Value n → HexSays s n
-    go false f e = let c : _≡_ {A = ℕ} 0 1 = cc in absurd (omega arith)
-    go true f e = let w = both-le {a = 1} {b = length s} {c = length s} {d = mostHexDigits} f in record { some = w .0; few = w .1; value = e }
+    go : (t : Bool) → (if t then readOn 0 s else Refused) ≡ Value n → readOn 0 s ≡ Value n
+    go true e = e
+    go false e = let c : _≡_ {A = ℕ} 0 1 = cc in absurd (omega arith)
 
--- what a word's field is: a number, or 0x and digits
-pub data WordIs (s : List ℕ) (n : ℕ) : Type 0 where
-  decimal : isHex s ≡ false → numberOf s ≡ Value n → WordIs s n
-  hex : s ≡ 48 ∷ 120 ∷ drop 2 s → HexSays (drop 2 s) n → WordIs s n
+data WordIs (s : List ℕ) (n : ℕ) : Type 0 where
+  decimal : numberOf s ≡ Value n → WordIs s n
+  hex : s ≡ 48 ∷ 120 ∷ drop 2 s → readOn 0 (drop 2 s) ≡ Value n → WordIs s n
 
-pub word-is : (s : List ℕ) (n : ℕ) → wordOf s ≡ Value n → WordIs s n
+word-is : (s : List ℕ) (n : ℕ) → wordOf s ≡ Value n → WordIs s n
 unfolding wordOf if_then_else_
-word-is s n e = go (isHex s) refl e
+word-is s n e = go (has0x s) refl e
   where
-    go : (t : Bool) → isHex s ≡ t → (if t then hexNumber (drop 2 s) else numberOf s) ≡ Value n → WordIs s n
-    go false f e = decimal f e
+    go : (t : Bool) → has0x s ≡ t → (if t then hexNumber (drop 2 s) else numberOf s) ≡ Value n → WordIs s n
+    go false f e = decimal e
     go true f e = hex (hex-field s f) (hex-says (drop 2 s) n e)
 
 pub word-some : (s : List ℕ) (n : ℕ) → wordOf s ≡ Value n → 0 < length s
 word-some s n e = go (word-is s n e)
   where
     go : WordIs s n → 0 < length s
-    go (decimal f d) = number-spells s n d .0 .some
+    go (decimal d) = number-spells s n d .0 .some
     go (hex f d) = omega (arith, ap length f)
 
 -- ---- a word has no comma, no LF and no other byte below the digits
 
-low : (b : ℕ) → b < 48 → hexDigit b ≡ 16
-unfolding hexDigit isDigit if_then_else_
-low b h = agree-at hexDigit (λ n. 16) 48 refl b h
+low : (b : ℕ) → b < 48 → isHexDigit b ≡ false
+unfolding isHexDigit isDigit
+low b h = rw (lt-leb 48 b h, lt-leb 65 b (omega arith))
 
-digit-from : (b : ℕ) → hexDigit b < 16 → 48 ≤ b
-digit-from b h = go (decLe 48 b)
-  where
-    go : Dec (48 ≤ b) → 48 ≤ b
-    go (yes l) = l
-    go (no l) = absurd (omega (arith, low b (omega arith)))
-
-hex-free : (b : ℕ) (s : List ℕ) (v n : ℕ) → b < 48 → hexFrom v s ≡ Value n → indexOf b s ≡ length s
-unfolding hexFrom indexOf if_then_else_
+hex-free : (b : ℕ) (s : List ℕ) (v n : ℕ) → b < 48 → readOn v s ≡ Value n → indexOf b s ≡ length s
+unfolding readOn indexOf if_then_else_
 hex-free b [] v n h e = refl
-hex-free b (x ∷ s) v n h e = go (ltb (hexDigit x) 16) refl e (hex-free b s (v * 16 + hexDigit x) n h)
+hex-free b (x ∷ s) v n h e = go (isHexDigit x) refl e (hex-free b s (v * 16 + hexDigit x) n h)
   where
-    go : (t : Bool) → ltb (hexDigit x) 16 ≡ t → (if t then hexFrom (v * 16 + hexDigit x) s else Refused) ≡ Value n
-        → (hexFrom (v * 16 + hexDigit x) s ≡ Value n → indexOf b s ≡ length s) → (if eqb x b then 0 else suc (indexOf b s)) ≡ suc (length s)
+    go : (t : Bool) → isHexDigit x ≡ t → (if t then readOn (v * 16 + hexDigit x) s else Refused) ≡ Value n
+        → (readOn (v * 16 + hexDigit x) s ≡ Value n → indexOf b s ≡ length s) → (if eqb x b then 0 else suc (indexOf b s)) ≡ suc (length s)
     go false f e ih = let c : _≡_ {A = ℕ} 0 1 = cc in absurd (omega arith)
-    go true f e ih =
-        let l = digit-from x (ltb-true (hexDigit x) 16 f) in
-        rw (ne-eqb x b (λ g. omega arith)) (ap suc (ih e))
+    go true f e ih = rw (ne-eqb x b (λ g. false≢true (sym (low x (omega arith)) ∙ f))) (ap suc (ih e))
 
 pub word-free : (b : ℕ) (s : List ℕ) (n : ℕ) → b < 48 → wordOf s ≡ Value n → indexOf b s ≡ length s
 unfolding indexOf isDigit if_then_else_
 word-free b s n h e = go (word-is s n e)
   where
     go : WordIs s n → indexOf b s ≡ length s
-    go (decimal f d) = digits-free b s (rw (lt-leb 48 b h)) (number-spells s n d .0 .digits)
+    go (decimal d) = digits-free b s (rw (lt-leb 48 b h)) (number-spells s n d .0 .digits)
     go (hex f d) =
         ap (indexOf b) f
-        ∙ rw (ne-eqb 48 b (λ g. omega arith), ne-eqb 120 b (λ g. omega arith)) (ap suc (ap suc (hex-free b (drop 2 s) 0 n h (d .value))))
+        ∙ rw (ne-eqb 48 b (λ g. omega arith), ne-eqb 120 b (λ g. omega arith)) (ap suc (ap suc (hex-free b (drop 2 s) 0 n h d)))
         ∙ sym (ap length f)

@@ -12,7 +12,7 @@ use Rattle.sheet.specs.Number.{isDigit}
 use Rattle.sheet.specs.declared.Number.{Number}
 use Rattle.sheet.specs.declared.Number.the-variants.{Value}
 use Rattle.sheet.specs.declared.quick.Figure.{Figure}
-use Rattle.sheet.specs.declared.quick.Figure.the-variants.{Number as Said, Nothing}
+use Rattle.sheet.specs.declared.quick.Figure.the-variants.{Said, Nothing}
 
 -- A place has a byte, or a digit
 unfoldable pub isAt : List ℕ → ℕ → ℕ → Bool

@@ -1,8 +1,8 @@
 -- The word that a field says: OPS_1 and OPS_2 of an M line, and the word of an I line. Other fields are numbers (Number.antt). Change request 4:
--- wiring sheets print a word "with 0x and one to eight digits, capital letters only"; "Leading zeros are allowed after 0x." A word without 0x is a
+-- wiring sheets print a word "with 0x and one to eight digits, capital letters only"; "Leading zeros are allowed after 0x." A field without 0x is a
 -- number, as it was before.
 use Prim.Native.Nat.{ℕ, zero, suc, _+_, _-_, _*_, _/_, _%_}
-use mathlib.Core.Bool.{Bool, _&&_}
+use mathlib.Core.Bool.{Bool, true, _&&_, _||_}
 use mathlib.Core.List.{List, [], _∷_, _++_}
 use lib.ListN.{length, drop, getD}
 use lib.Dec.{eqb, leb, ltb}
@@ -11,32 +11,41 @@ use Rattle.sheet.specs.Number.{isDigit, numberOf}
 use Rattle.sheet.specs.declared.Number.{Number}
 use Rattle.sheet.specs.declared.Number.the-variants.{Value, Refused}
 
--- The value of a hexadecimal digit: besides 0 to 9, the bytes 65 to 70 are A to F. Any other byte is none, and has 16.
+-- A hexadecimal digit: the bytes 48 to 57 are 0 to 9, and 65 to 70 are A to F
+unfoldable pub isHexDigit : ℕ → Bool
+isHexDigit b = isDigit b || (leb 65 b && leb b 70)
+
 unfoldable pub hexDigit : ℕ → ℕ
-hexDigit b = if isDigit b then b - 48 else if leb 65 b && leb b 70 then b - 55 else 16
+hexDigit b = if isDigit b then b - 48 else b - 55
+
+-- such digits alone: no small letter, sign or any other byte
+unfoldable pub allHexDigits : List ℕ → Bool
+allHexDigits [] = true
+allHexDigits (b ∷ bs) = isHexDigit b && allHexDigits bs
 
 -- What hexadecimal digits say, read on from the value v of those before them
-unfoldable pub hexFrom : ℕ → List ℕ → Number
-hexFrom v [] = Value v
-hexFrom v (b ∷ bs) = if ltb (hexDigit b) 16 then hexFrom (v * 16 + hexDigit b) bs else Refused
+unfoldable pub hexFrom : ℕ → List ℕ → ℕ
+hexFrom v [] = v
+hexFrom v (b ∷ bs) = hexFrom (v * 16 + hexDigit b) bs
 
 -- "one to eight digits"
-abbrev pub mostHexDigits : ℕ
-mostHexDigits = 8
+unfoldable pub isHexCount : ℕ → Bool
+isHexCount n = leb 1 n && leb n 8
 
+-- What stands after 0x
 unfoldable pub hexNumber : List ℕ → Number
-hexNumber digits = if leb 1 (length digits) && leb (length digits) mostHexDigits then hexFrom 0 digits else Refused
+hexNumber digits = if isHexCount (length digits) && allHexDigits digits then Value (hexFrom 0 digits) else Refused
 
--- "with 0x": the bytes 48 and 120
-unfoldable pub isHex : List ℕ → Bool
-isHex field = eqb (getD field 0 0) 48 && eqb (getD field 1 0) 120
+-- "with 0x": the bytes 48 and 120 come first
+unfoldable pub has0x : List ℕ → Bool
+has0x field = eqb (getD field 0 0) 48 && eqb (getD field 1 0) 120
 
 -- A field's word
 unfoldable pub wordOf : List ℕ → Number
-wordOf field = if isHex field then hexNumber (drop 2 field) else numberOf field
+wordOf field = if has0x field then hexNumber (drop 2 field) else numberOf field
 
--- The way back: the field that a sheet prints for a word n, below 16 ^ k, in k digits. proofs/HexBack.antt has it that this field, and no other of
--- its length, says n in hexadecimal.
+-- The way back: the field that a wiring sheet prints for a word n, below 16 ^ k, in k digits. It says n, and no other field with 0x and k digits does
+-- (proofs/HexBack.antt).
 unfoldable pub hexDigitOf : ℕ → ℕ
 hexDigitOf d = if ltb d 10 then 48 + d else 55 + d
 

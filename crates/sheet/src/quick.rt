@@ -1,5 +1,5 @@
-// The next request of a file. Lines of the two common kinds, I and S, are read once, where they stand in the file. What
-// cannot be read so is left to the reader of any line: a reading here may fail for any reason, but must not be wrong.
+// The next request of a file. Lines of the two common kinds, I and S, are read once, where they stand in the file, but for a
+// word in hexadecimal, whose end is looked for first. What cannot be read so is left to the reader of any line: a reading here may fail for any reason, but must not be wrong.
 ghost use mathlib.Core.Path.{_≡_};
 ghost use mathlib.Core.Bool.{true};
 ghost use Prim.Native.Nat.{_≤_};
@@ -13,21 +13,20 @@ use crate::Request;
 use crate::fields::COMMA;
 use crate::lines::LF;
 use crate::lines::LONGEST;
-use crate::lines::index_from;
 use crate::lines::part;
 use crate::numbers::LARGEST;
 use crate::numbers::wide;
 use crate::requests::INPUT;
 use crate::requests::SCAN;
 use crate::requests::request_at;
+use crate::search::lf_from;
+use crate::word_fields::has_0x;
 use crate::word_fields::read_word;
-
-const ZERO: u8 = b'0';
 
 // What is read at a place where a number or a word may stand.
 pub enum Figure {
     // Its value, and the place after its last digit.
-    Number(u32, usize),
+    Said(u32, usize),
     Nothing,
 }
 
@@ -57,8 +56,8 @@ fn is_digit_at(file: &[u8], at: usize) -> bool
 fn number_at(file: &[u8], at: usize) -> Figure
     ensures { λ r. ⌜ Read numberOf (now (file .entry)) at r ⌝ }
 {
-    if is_at(file, at, ZERO) {
-        return Figure::Number(0, at + 1);
+    if is_at(file, at, b'0') {
+        return Figure::Said(0, at + 1);
     }
     let mut value: u64 = 0;
     let mut i = at;
@@ -72,28 +71,26 @@ fn number_at(file: &[u8], at: usize) -> Figure
     if value == 0 {
         return Figure::Nothing;
     }
-    Figure::Number(value as u32, i)
+    Figure::Said(value as u32, i)
 }
 
-// The word up to the end of the line, in hexadecimal.
-fn hex_at(file: &[u8], at: usize) -> Figure
+// The word from a place up to the end of its line.
+fn word_up_to_lf(file: &[u8], at: usize) -> Figure
     ensures { λ r. ⌜ Read wordOf (now (file .entry)) at r ⌝ }
 {
-    let end = index_from(file, at, LF);
+    let end = lf_from(file, at);
     let Number::Value(word) = read_word(part(file, at, end)) else {
         return Figure::Nothing;
     };
-    Figure::Number(word, end)
+    Figure::Said(word, end)
 }
 
 // The word at a place of a file, where it is the last field of its line.
-fn word_at(file: &[u8], at: usize) -> Figure
+fn word_field_at(file: &[u8], at: usize) -> Figure
     ensures { λ r. ⌜ Read wordOf (now (file .entry)) at r ⌝ }
 {
-    if is_at(file, at, ZERO) {
-        if is_at(file, at + 1, b'x') {
-            return hex_at(file, at);
-        }
+    if has_0x(part(file, at, file.len())) {
+        return word_up_to_lf(file, at);
     }
     number_at(file, at)
 }
@@ -121,7 +118,7 @@ fn scan_at(file: &[u8], at: usize) -> Next
     requires { ⌜ beginsWith (now file) at letter-S ≡ true ⌝ }
     ensures { λ r. ⌜ r ≡ nextAt (now (file .entry)) at ⌝ }
 {
-    let Figure::Number(period, end) = number_at(file, at + 2) else {
+    let Figure::Said(period, end) = number_at(file, at + 2) else {
         return request_at(file, at);
     };
     if ends_line(file, at, end) {
@@ -135,13 +132,13 @@ fn input_at(file: &[u8], at: usize) -> Next
     requires { ⌜ beginsWith (now file) at letter-I ≡ true ⌝ }
     ensures { λ r. ⌜ r ≡ nextAt (now (file .entry)) at ⌝ }
 {
-    let Figure::Number(number, parting) = number_at(file, at + 2) else {
+    let Figure::Said(number, parting) = number_at(file, at + 2) else {
         return request_at(file, at);
     };
     if !is_at(file, parting, COMMA) {
         return request_at(file, at);
     }
-    let Figure::Number(word, end) = word_at(file, parting + 1) else {
+    let Figure::Said(word, end) = word_field_at(file, parting + 1) else {
         return request_at(file, at);
     };
     if ends_line(file, at, end) {

@@ -1,6 +1,7 @@
-// The word that a field says: a number, or hexadecimal digits behind 0x.
+// The word that a field says: a number, or hexadecimal digits after 0x.
 ghost use mathlib.Core.Path.{_≡_};
-ghost use Rattle.sheet.specs.WordField.{hexDigit, hexNumber, isHex, wordOf};
+ghost use Rattle.words.specs.Word.{if_then_else_};
+ghost use Rattle.sheet.specs.WordField.{isHexDigit, hexDigit, isHexCount, hexNumber, has0x, wordOf};
 use crate::Number;
 use crate::lines::part;
 use crate::numbers::read_number;
@@ -11,7 +12,7 @@ const MOST_DIGITS: usize = 8;
 
 // The value of a hexadecimal digit, and 16 of any other byte.
 fn hex_digit(b: u8) -> u64
-    ensures { λ r. ⌜ r ≡ hexDigit b ⌝ }
+    ensures { λ r. ⌜ r ≡ (if isHexDigit b then hexDigit b else 16) ⌝ }
 {
     if (48 <= b) & (b <= 57) {
         return wide(b) - 48;
@@ -22,11 +23,18 @@ fn hex_digit(b: u8) -> u64
     16
 }
 
-// What the digits behind 0x say.
+// Whether a word may have so many hexadecimal digits.
+fn is_hex_count(n: usize) -> bool
+    ensures { λ r. ⌜ r ≡ isHexCount n ⌝ }
+{
+    (1 <= n) & (n <= MOST_DIGITS)
+}
+
+// What the digits after 0x say.
 fn hex_digits(digits: &[u8]) -> Number
     ensures { λ r. ⌜ r ≡ hexNumber (now (digits .entry)) ⌝ }
 {
-    if !((1 <= digits.len()) & (digits.len() <= MOST_DIGITS)) {
+    if !is_hex_count(digits.len()) {
         return Number::Refused;
     }
     let mut value: u64 = 0;
@@ -43,8 +51,8 @@ fn hex_digits(digits: &[u8]) -> Number
 }
 
 // Whether a field begins with 0x.
-fn is_hex(field: &[u8]) -> bool
-    ensures { λ r. ⌜ r ≡ isHex (now (field .entry)) ⌝ }
+pub fn has_0x(field: &[u8]) -> bool
+    ensures { λ r. ⌜ r ≡ has0x (now (field .entry)) ⌝ }
 {
     if field.len() < 2 {
         return false;
@@ -56,7 +64,7 @@ fn is_hex(field: &[u8]) -> bool
 pub fn read_word(field: &[u8]) -> Number
     ensures { λ r. ⌜ r ≡ wordOf (now (field .entry)) ⌝ }
 {
-    if is_hex(field) {
+    if has_0x(field) {
         return hex_digits(part(field, 2, field.len()));
     }
     read_number(field)

@@ -32,8 +32,8 @@ parting : (c : tie.Else1)
     ≡ true
 parting c = sym (c .before .is-at .ensures) ∙ not-false _ (c .if1 .left)
 
-add-word-at : tie.Need-add-word-at
-add-word-at c = omega (arith, byte-at _ _ comma (parting c))
+add-word-field-at : tie.Need-add-word-field-at
+add-word-field-at c = omega (arith, byte-at _ _ comma (parting c))
 
 -- the word that was read
 word : (c : tie.After-known-told2)
@@ -41,7 +41,7 @@ word : (c : tie.After-known-told2)
     (c .before .before .before .before .before .before .before .number .given .0 .1 .0 + 1)
     (c .before .word .given .0 .0) (c .before .word .given .0 .1 .0)
 unfolding Read
-word c = rw (c .before .word .given .1) at (c .before .before .before .word-at .ensures)
+word c = rw (c .before .word .given .1) at (c .before .before .before .word-field-at .ensures)
 
 -- and the line's end after it
 end : (c : tie.Then2)
@@ -77,7 +77,7 @@ input-at-spec =
     (λ c κs. search needs)
     (λ c κs. search needs)
     (λ c. search needs)
-    add-word-at
+    add-word-field-at
     (λ c κs. search needs)
     (λ c. search needs)
     (λ c. search needs)

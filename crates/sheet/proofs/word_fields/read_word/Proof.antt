@@ -12,11 +12,11 @@ returns c =
     let s = c .before .before .before .before .before .args .field .now in
     c .hex-digits .ensures
     ∙ ap hexNumber (c .before .part .ensures ∙ between-last 2 s)
-    ∙ rw (sym (c .before .before .before .is-hex .ensures) ∙ c .before .before .if1 .taken)
+    ∙ rw (sym (c .before .before .before .has-0x .ensures) ∙ c .before .before .if1 .taken)
 
 returns-2 : tie.Need-returns-2
 unfolding wordOf if_then_else_
-returns-2 c = c .read-number .ensures ∙ rw (sym (c .before .before .is-hex .ensures) ∙ c .before .if1 .left)
+returns-2 c = c .read-number .ensures ∙ rw (sym (c .before .before .has-0x .ensures) ∙ c .before .if1 .left)
 
 pub read-word-spec : {M : Type 1} → statement M
 read-word-spec =
