@@ -1,7 +1,7 @@
 #!/usr/bin/env bash
 # Runs the program against the model written apart: the model's own tests, the sheets,
-# files with line ends at each of the first places, files with words written in every
-# way, right and wrong, and random files.
+# files with line ends at each of the first places, files with words written in many
+# ways, right and wrong, and random files.
 set -euo pipefail
 cd "$(dirname "$0")/.."
 program=$PWD/target/bin/bench

@@ -151,8 +151,8 @@ impl Bench {
     }
 }
 
-/// Runs a file and tells the watcher of every line, without its LF: what it did,
-/// or why it was refused (an empty line for a file that is too long). Hands back
+/// Runs a file and tells the watcher of every line, with its LF if it has one: what
+/// it did, or why it was refused (no bytes for a file that is too long). Hands back
 /// the print and, if nothing was refused, the books that its totals come from.
 pub fn run_watched(
     file: &[u8],
@@ -171,7 +171,7 @@ pub fn run_watched(
             None => (raw, false),
         };
         let result = bench.take(line, ends_in_lf);
-        watch(line, &result);
+        watch(raw, &result);
         match result {
             Ok(Done::Scan(lines, _)) => print.extend_from_slice(lines.as_bytes()),
             Ok(_) => {}

@@ -151,8 +151,9 @@ pub const WAYS: [WrongWay; 12] = [
 ];
 
 impl Hexadecimal {
-    /// A line that was accepted or refused, without its LF.
-    fn count(&mut self, line: &[u8], result: &Result<Done, u32>) {
+    /// A line that was accepted or refused. One without LF is refused for that.
+    fn count(&mut self, raw: &[u8], result: &Result<Done, u32>) {
+        let Some(line) = raw.strip_suffix(b"\n") else { return };
         let fields: Vec<&[u8]> = line.split(|byte| *byte == b',').collect();
         let field = |(_, first, place): &Field| fields.get(*place).filter(|_| fields[0] == *first);
         // Whether the text of the line is good with another field there.

@@ -132,13 +132,14 @@ fn read_back() {
     }
 }
 
-/// The greatest value of each field and the next one, in every width.
+/// The greatest value of each field and the next one, in every width that has room
+/// for it.
 #[test]
 fn limits() {
-    for limit in [31, 65_535, 131_071, 600_000, u32::MAX - 1] {
+    for limit in [31, 65_535, 131_071, u32::MAX - 1] {
         for value in [limit, limit + 1] {
             is(value.to_string().as_bytes(), Some(value));
-            for width in 1..=8 {
+            for width in format!("{value:X}").len()..=8 {
                 is(format!("0x{value:0width$X}").as_bytes(), Some(value));
             }
         }
@@ -191,7 +192,7 @@ fn only_words() {
 #[test]
 fn decimal_words() {
     let same = |field: &[u8]| assert_eq!(word(field), number(field), "{}", field.escape_ascii());
-    // All up to three bytes, good or not; `0x` and one byte is the only other.
+    // All fields of up to three bytes, good or not, but for `0x` and a third.
     for one in 0..=255u8 {
         same(&[one]);
         for two in 0..=255 {
@@ -275,8 +276,9 @@ fn files_of_words() {
     for answer in ["T", "E,1,4", "E,1,5", "E,2,3", "E,2,5"] {
         assert!(answers[answer] > 20, "{answers:?}");
     }
-    // An LF as a digit makes an unknown line of the rest of an M line.
-    assert!(answers.keys().all(|answer| answer == "T" || answer[2..] < *"3"), "{answers:?}");
+    // The word stands in line 1 or 2, and so does what is wrong.
+    let refused = |answer: &String| answer.split(',').nth(1)?.parse::<u32>().ok();
+    assert!(answers.keys().filter_map(refused).all(|line| line <= 2), "{answers:?}");
 }
 
 /// The file with its words written anew. What is no word stays.
@@ -305,8 +307,8 @@ fn decimal(value: u32) -> String {
     value.to_string()
 }
 
-/// "Each file accepted before prints what it printed": all files, also refused
-/// ones, print the same in decimal, in hexadecimal of any width and in both.
+/// All files, also refused ones, print the same in decimal, in hexadecimal of any
+/// width and in both.
 #[test]
 fn notation_does_not_matter() {
     let mut dice = Dice::new(4, 6);
@@ -331,7 +333,6 @@ fn notation_does_not_matter() {
         mixed += usize::from(plain != file);
         for chance in [0, 20, 50, 100] {
             let other = rewritten(&file, &mut share(chance));
-            assert!(chance > 0 || other == plain);
             assert!(other.len() <= 65_536);
             assert!(print(&other) == expected, "{}", file.escape_ascii());
         }

@@ -1,5 +1,6 @@
-// The next request of a file. Lines of the two common kinds, I and S, are read once, where they stand in the file, but for a
-// word in hexadecimal, whose end is looked for first. What cannot be read so is left to the reader of any line: a reading here may fail for any reason, but must not be wrong.
+// The next request of a file. Lines of the two common kinds, I and S, are read once, where they stand in the file, but for
+// words in hexadecimal, whose end is looked for first. What cannot be read so is left to the reader of any line: a reading
+// here may fail for any reason, but must not be wrong.
 ghost use mathlib.Core.Path.{_≡_};
 ghost use mathlib.Core.Bool.{true};
 ghost use Prim.Native.Nat.{_≤_};
