@@ -3,6 +3,7 @@ pub mod WordLaws
 pub mod LineLaws
 pub mod NumberLaws
 pub mod WordFieldLaws
+pub mod HexRunLaws
 pub mod HexBack
 pub mod DecimalLaws
 pub mod RequestLaws

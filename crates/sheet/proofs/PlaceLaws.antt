@@ -23,7 +23,7 @@ use Rattle.sheet.specs.declared.Number.the-variants.{Value}
 use Rattle.sheet.specs.declared.Line.the-variants.{Until}
 use Rattle.sheet.specs.declared.Request.the-variants.{Motor, Input, Scan}
 use Rattle.sheet.specs.declared.Next.the-variants.{Taken}
-use Rattle.sheet.proofs.SplitLaws.{index-le, Free, free-none, free-more, split-joined, free-joined}
+use Rattle.sheet.proofs.SplitLaws.{Free, free-none, free-more, split-joined, free-joined}
 use Rattle.sheet.proofs.LineLaws.{lines-part}
 use Rattle.sheet.proofs.NumberLaws.{digit-range, all-snoc, value-more, first-digit, spells-number}
 use Rattle.sheet.proofs.WordFieldLaws.{number-word, word-some, word-free}
@@ -160,23 +160,6 @@ parted {file} {at} {value} {end} p =
       size = between-length file at end (omega (arith, p .within));
       free = λ b h. word-free b (between at end file) value h (p .says);
       parts = sym (take-append-drop (end - at) (drop at file)) ∙ rw (drop-drop (end - at) at file, m);
-    }
-
--- a word up to the next LF
-pub line-said : (file : List ℕ) (at : ℕ) {value end : ℕ} → end ≡ at + indexOf LF (drop at file) → wordOf (between at end file) ≡ Value value
-    → SaidAt wordOf file at value end
-unfolding between
-line-said file at {value} {end} e w =
-    record {
-      within =
-          omega (
-            arith,
-            word-some (between at end file) value w,
-            length-take (end - at) (drop at file),
-            index-le LF (drop at file),
-            length-drop at file,
-          );
-      says = w;
     }
 
 -- ---- a line, by its beginning and its end

@@ -5,8 +5,7 @@ use mathlib.Core.Bool.{Bool, true, false, _&&_, _||_, and-false, false≢true}
 use mathlib.Core.List.{List, [], _∷_}
 use native.Mathlib.Omega.{arith}
 use native.Mathlib.Nat.{pow-le-pow-right}
-use lib.ListN.{length, drop, getD, drop-of-length-le}
-use lib.Seq.{drop-cons}
+use lib.ListN.{length, drop, getD}
 use lib.Dec.{eqb, leb, lit<}
 use borrow.Author.Tests.{lt-leb, ne-eqb, eqb-true}
 use Rattle.words.specs.Word.{if_then_else_}
@@ -28,25 +27,7 @@ digit-small b h = go (leb 48 b && leb b 57) refl h
     go true e h = omega (arith, both-le {a = 48} {b = b} {c = b} {d = 57} e .1)
     go false e h = omega (arith, both-le {a = 65} {b = b} {c = b} {d = 70} h .1)
 
--- a byte by its value, or 16
-module _ (b d : ℕ) (e : d ≡ (if isHexDigit b then hexDigit b else 16)) where
-  pub no-digit : 16 ≤ d → isHexDigit b ≡ false
-  unfolding if_then_else_
-  no-digit h = go (isHexDigit b) refl e
-    where
-      go : (t : Bool) → isHexDigit b ≡ t → d ≡ (if t then hexDigit b else 16) → isHexDigit b ≡ false
-      go true f e = absurd (omega (arith, digit-small b f))
-      go false f e = f
-
-  pub a-digit : d < 16 → (isHexDigit b ≡ true) × (d ≡ hexDigit b)
-  unfolding if_then_else_
-  a-digit h = go (isHexDigit b) refl e
-    where
-      go : (t : Bool) → isHexDigit b ≡ t → d ≡ (if t then hexDigit b else 16) → (isHexDigit b ≡ true) × (d ≡ hexDigit b)
-      go true f e = (f, e)
-      go false f e = absurd (omega arith)
-
--- bytes read one by one, as a loop reads them
+-- the same in one: digits read one by one, and none said at a byte that is no digit
 unfoldable pub readOn : ℕ → List ℕ → Number
 readOn v [] = Value v
 readOn v (b ∷ bs) = if isHexDigit b then readOn (v * 16 + hexDigit b) bs else Refused
@@ -69,20 +50,6 @@ hex-read s = go (isHexCount (length s)) (read-all 0 s)
         → (if t && allHexDigits s then Value (hexFrom 0 s) else Refused) ≡ (if t then readOn 0 s else Refused)
     go true e = sym e
     go false e = refl
-
--- one byte read, and all of them
-module _ (s : List ℕ) (i : ℕ) (h : i < length s) (v : ℕ) where
-  pub hex-step : isHexDigit (getD s i 0) ≡ true → readOn v (drop i s) ≡ readOn (v * 16 + hexDigit (getD s i 0)) (drop (suc i) s)
-  unfolding readOn if_then_else_
-  hex-step e = rw (drop-cons s i 0 h, e)
-
-  pub hex-other : isHexDigit (getD s i 0) ≡ false → readOn v (drop i s) ≡ Refused
-  unfolding readOn if_then_else_
-  hex-other e = rw (drop-cons s i 0 h, e)
-
-pub hex-past : (s : List ℕ) (i : ℕ) → length s ≤ i → (v : ℕ) → readOn v (drop i s) ≡ Value v
-unfolding readOn
-hex-past s i h v = rw (drop-of-length-le s h)
 
 -- eight digits say a number of 32 bits
 pub hex-fits : (k : ℕ) → k ≤ 8 → 16 ^ k ≤ 4294967296

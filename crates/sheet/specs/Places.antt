@@ -3,12 +3,14 @@
 use Prim.Native.Nat.{ℕ, _+_, _-_, _≤_}
 use mathlib.Core.Path.{_≡_}
 use mathlib.Core.Bool.{Bool, _&&_}
-use mathlib.Core.List.{List}
-use lib.ListN.{length, getD}
+use mathlib.Core.List.{List, [], _∷_}
+use lib.ListN.{length, drop, getD}
 use lib.Dec.{eqb, leb, ltb}
+use Rattle.words.specs.Word.{if_then_else_}
 use Rattle.sheet.specs.Split.{LF, comma, between}
 use Rattle.sheet.specs.Lines.{longest}
 use Rattle.sheet.specs.Number.{isDigit}
+use Rattle.sheet.specs.WordField.{isHexDigit, hexDigit, hexFrom, isHexCount}
 use Rattle.sheet.specs.declared.Number.{Number}
 use Rattle.sheet.specs.declared.Number.the-variants.{Value}
 use Rattle.sheet.specs.declared.quick.Figure.{Figure}
@@ -20,6 +22,21 @@ isAt file at b = ltb at (length file) && eqb (getD file at 0) b
 
 unfoldable pub isDigitAt : List ℕ → ℕ → Bool
 isDigitAt file at = ltb at (length file) && isDigit (getD file at 0)
+
+-- The value of the hexadecimal digit at a place, and 16 where none stands
+unfoldable pub hexDigitAt : List ℕ → ℕ → ℕ
+hexDigitAt file at = if ltb at (length file) && isHexDigit (getD file at 0) then hexDigit (getD file at 0) else 16
+
+-- The hexadecimal digits with which bytes begin, as many as there are
+unfoldable pub hexRun : List ℕ → List ℕ
+hexRun [] = []
+hexRun (b ∷ bs) = if isHexDigit b then b ∷ hexRun bs else []
+
+-- What those from a place on say, and the place after them, if they are as many as a word may have
+unfoldable pub hexRunAt : List ℕ → ℕ → Figure
+hexRunAt file at =
+    let run = hexRun (drop at file) in
+    if isHexCount (length run) then Said (hexFrom 0 run) (at + length run) else Nothing
 
 -- A letter, alone in its field, and a comma after it
 unfoldable pub beginsWith : List ℕ → ℕ → ℕ → Bool

@@ -1,6 +1,5 @@
-// The next request of a file. Lines of the two common kinds, I and S, are read once, where they stand in the file, but for
-// words in hexadecimal, whose end is looked for first. What cannot be read so is left to the reader of any line: a reading
-// here may fail for any reason, but must not be wrong.
+// The next request of a file. Lines of the two common kinds, I and S, are read once, where they stand in the file. What
+// cannot be read so is left to the reader of any line: a reading here may fail for any reason, but must not be wrong.
 ghost use mathlib.Core.Path.{_≡_};
 ghost use mathlib.Core.Bool.{true};
 ghost use Prim.Native.Nat.{_≤_};
@@ -9,7 +8,6 @@ ghost use Rattle.sheet.specs.WordField.{wordOf};
 ghost use Rattle.sheet.specs.Grammar.{letter-I, letter-S, nextAt};
 ghost use Rattle.sheet.specs.Places.{isAt, isDigitAt, beginsWith, endsLine, Read};
 use crate::Next;
-use crate::Number;
 use crate::Request;
 use crate::fields::COMMA;
 use crate::lines::LF;
@@ -20,9 +18,8 @@ use crate::numbers::wide;
 use crate::requests::INPUT;
 use crate::requests::SCAN;
 use crate::requests::request_at;
-use crate::search::lf_from;
 use crate::word_fields::has_0x;
-use crate::word_fields::read_word;
+use crate::word_fields::hex_run;
 
 // What is read at a place where a number or a word may stand.
 pub enum Figure {
@@ -75,23 +72,12 @@ fn number_at(file: &[u8], at: usize) -> Figure
     Figure::Said(value as u32, i)
 }
 
-// The word from a place up to the end of its line.
-fn word_up_to_lf(file: &[u8], at: usize) -> Figure
-    ensures { λ r. ⌜ Read wordOf (now (file .entry)) at r ⌝ }
-{
-    let end = lf_from(file, at);
-    let Number::Value(word) = read_word(part(file, at, end)) else {
-        return Figure::Nothing;
-    };
-    Figure::Said(word, end)
-}
-
-// The word at a place of a file, where it is the last field of its line.
+// The word at a place of a file.
 fn word_field_at(file: &[u8], at: usize) -> Figure
     ensures { λ r. ⌜ Read wordOf (now (file .entry)) at r ⌝ }
 {
     if has_0x(part(file, at, file.len())) {
-        return word_up_to_lf(file, at);
+        return hex_run(file, at + 2);
     }
     number_at(file, at)
 }

@@ -1,11 +1,13 @@
 // The word that a field says: a number, or hexadecimal digits after 0x.
 ghost use mathlib.Core.Path.{_≡_};
 ghost use Rattle.words.specs.Word.{if_then_else_};
-ghost use Rattle.sheet.specs.WordField.{isHexDigit, hexDigit, isHexCount, hexNumber, has0x, wordOf};
+ghost use Rattle.sheet.specs.WordField.{isHexDigit, hexDigit, hexNumber, has0x, wordOf};
+ghost use Rattle.sheet.specs.Places.{hexDigitAt, hexRunAt};
 use crate::Number;
 use crate::lines::part;
 use crate::numbers::read_number;
 use crate::numbers::wide;
+use crate::quick::Figure;
 
 // How many hexadecimal digits a word may have.
 const MOST_DIGITS: usize = 8;
@@ -23,31 +25,48 @@ fn hex_digit(b: u8) -> u64
     16
 }
 
-// Whether a word may have so many hexadecimal digits.
-fn is_hex_count(n: usize) -> bool
-    ensures { λ r. ⌜ r ≡ isHexCount n ⌝ }
+// The value of the digit at a place, and 16 where none stands.
+fn hex_digit_at(s: &[u8], at: usize) -> u64
+    ensures { λ r. ⌜ r ≡ hexDigitAt (now (s .entry)) at ⌝ }
 {
-    (1 <= n) & (n <= MOST_DIGITS)
+    if at < s.len() {
+        return hex_digit(s[at]);
+    }
+    16
 }
 
-// What the digits after 0x say.
+// The digits from a place on, up to a byte that is none. A ninth ends the loop, so that no value wraps.
+pub fn hex_run(s: &[u8], at: usize) -> Figure
+    ensures { λ r. ⌜ r ≡ hexRunAt (now (s .entry)) at ⌝ }
+{
+    let mut value: u64 = 0;
+    let mut i = at;
+    let mut digit = hex_digit_at(s, i);
+    while digit < 16 {
+        value = value * 16 + digit;
+        i += 1;
+        if MOST_DIGITS < i - at {
+            return Figure::Nothing;
+        }
+        digit = hex_digit_at(s, i);
+    }
+    if i == at {
+        return Figure::Nothing;
+    }
+    Figure::Said(value as u32, i)
+}
+
+// What stands after 0x: digits alone.
 fn hex_digits(digits: &[u8]) -> Number
     ensures { λ r. ⌜ r ≡ hexNumber (now (digits .entry)) ⌝ }
 {
-    if !is_hex_count(digits.len()) {
+    let Figure::Said(value, end) = hex_run(digits, 0) else {
         return Number::Refused;
+    };
+    if end == digits.len() {
+        return Number::Value(value);
     }
-    let mut value: u64 = 0;
-    let mut i = 0;
-    while i < digits.len() {
-        let digit = hex_digit(digits[i]);
-        if 16 <= digit {
-            return Number::Refused;
-        }
-        value = value * 16 + digit;
-        i += 1;
-    }
-    Number::Value(value as u32)
+    Number::Refused
 }
 
 // Whether a field begins with 0x.
