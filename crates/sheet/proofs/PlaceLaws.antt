@@ -16,9 +16,7 @@ use Rattle.sheet.specs.Lines.{longest, line, wellSized, textOf, firstLin
 use Rattle.sheet.specs.Number.{largest, isDigit, allDigits, valueFrom, digitsNumber, leadingZero, numberOf}
 use Rattle.sheet.specs.WordField.{wordOf}
 use Rattle.sheet.specs.Grammar.{letter-M, letter-I, letter-S, letterOf, isKind, numberIn, wordIn, withValue, motorFrom, inputFrom, scanFrom, motorOf, inputOf, scanOf, requestOf, takenAt, nextAt}
-use Rattle.sheet.specs.Places.{isAt, isDigitAt, beginsWith, endsLine, SaidAt, Read}
-use Rattle.sheet.specs.declared.quick.Figure.{Figure}
-use Rattle.sheet.specs.declared.quick.Figure.the-variants.{Said, Nothing}
+use Rattle.sheet.specs.Places.{isAt, isDigitAt, beginsWith, endsLine, SaidAt}
 use Rattle.sheet.specs.declared.Number.the-variants.{Value}
 use Rattle.sheet.specs.declared.Line.the-variants.{Until}
 use Rattle.sheet.specs.declared.Request.the-variants.{Motor, Input, Scan}
@@ -135,11 +133,6 @@ module _ (file : List ℕ) (at : ℕ) where
 -- a number at a place is a word there
 pub number-said : {file : List ℕ} {at value end : ℕ} → SaidAt numberOf file at value end → SaidAt wordOf file at value end
 number-said p = record { within = p .within; says = number-word _ _ (p .says) }
-
-pub read-said : (file : List ℕ) (at : ℕ) (r : Figure) → Read numberOf file at r → Read wordOf file at r
-unfolding Read
-read-said file at (Said value end) p = number-said p
-read-said file at Nothing p = tt
 
 -- the field that says it, and what follows
 pub record Parted (file : List ℕ) (at end : ℕ) : Type 0 where

@@ -2,15 +2,16 @@
 -- of `nextAt`; nothing here says more of the file.
 use Prim.Native.Nat.{ℕ, _+_, _-_, _≤_}
 use mathlib.Core.Path.{_≡_}
-use mathlib.Core.Bool.{Bool, _&&_}
+use mathlib.Core.Bool.{Bool, true, _&&_}
 use mathlib.Core.List.{List, [], _∷_}
 use lib.ListN.{length, drop, getD}
 use lib.Dec.{eqb, leb, ltb}
 use Rattle.words.specs.Word.{if_then_else_}
 use Rattle.sheet.specs.Split.{LF, comma, between}
 use Rattle.sheet.specs.Lines.{longest}
-use Rattle.sheet.specs.Number.{isDigit}
+use Rattle.sheet.specs.Number.{isDigit, numberOf}
 use Rattle.sheet.specs.WordField.{isHexDigit, hexDigit, hexFrom, isHexCount}
+use Rattle.sheet.specs.Grammar.{letter-I}
 use Rattle.sheet.specs.declared.Number.{Number}
 use Rattle.sheet.specs.declared.Number.the-variants.{Value}
 use Rattle.sheet.specs.declared.quick.Figure.{Figure}
@@ -55,3 +56,9 @@ pub record SaidAt (meaning : List ℕ → Number) (file : List ℕ) (at value en
 unfoldable pub Read : (List ℕ → Number) → List ℕ → ℕ → Figure → Type 0
 Read meaning file at (Said value end) = SaidAt meaning file at value end
 Read meaning file at Nothing = Unit {0}
+
+-- An I line as far as its number is read: up to the comma at `parting`
+pub record NumberRead (file : List ℕ) (at number parting : ℕ) : Type 0 where
+  pub begins : beginsWith file at letter-I ≡ true
+  pub number-said : SaidAt numberOf file (at + 2) number parting
+  pub parted : isAt file parting comma ≡ true

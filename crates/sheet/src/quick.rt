@@ -6,7 +6,7 @@ ghost use Prim.Native.Nat.{_≤_};
 ghost use Rattle.sheet.specs.Number.{numberOf};
 ghost use Rattle.sheet.specs.WordField.{wordOf};
 ghost use Rattle.sheet.specs.Grammar.{letter-I, letter-S, nextAt};
-ghost use Rattle.sheet.specs.Places.{isAt, isDigitAt, beginsWith, endsLine, Read};
+ghost use Rattle.sheet.specs.Places.{isAt, isDigitAt, beginsWith, endsLine, Read, NumberRead};
 use crate::Next;
 use crate::Request;
 use crate::fields::COMMA;
@@ -72,14 +72,14 @@ fn number_at(file: &[u8], at: usize) -> Figure
     Figure::Said(value as u32, i)
 }
 
-// The word at a place of a file.
-fn word_field_at(file: &[u8], at: usize) -> Figure
+// The word at a place of a file, in hexadecimal.
+fn hex_word_at(file: &[u8], at: usize) -> Figure
     ensures { λ r. ⌜ Read wordOf (now (file .entry)) at r ⌝ }
 {
     if has_0x(part(file, at, file.len())) {
         return hex_run(file, at + 2);
     }
-    number_at(file, at)
+    Figure::Nothing
 }
 
 // Whether a field of this letter alone stands at a place of a file, and a comma after it.
@@ -114,7 +114,27 @@ fn scan_at(file: &[u8], at: usize) -> Next
     request_at(file, at)
 }
 
-// The request of a line that begins with an I.
+// The request of an I line whose number is read; its word may be hexadecimal.
+fn hex_input_at(file: &[u8], at: usize, number: u32, parting: usize) -> Next
+    requires { ⌜ NumberRead (now file) at number parting ⌝ }
+    ensures { λ r. ⌜ r ≡ nextAt (now (file .entry)) at ⌝ }
+{
+    let Figure::Said(value, end) = hex_word_at(file, parting + 1) else {
+        return request_at(file, at);
+    };
+    if ends_line(file, at, end) {
+        return Next::Taken(
+            Request::Input {
+                number,
+                word: value,
+            },
+            end + 1,
+        );
+    }
+    request_at(file, at)
+}
+
+// The request of a line that begins with an I. Its word is taken for decimal first, as most are.
 fn input_at(file: &[u8], at: usize) -> Next
     requires { ⌜ beginsWith (now file) at letter-I ≡ true ⌝ }
     ensures { λ r. ⌜ r ≡ nextAt (now (file .entry)) at ⌝ }
@@ -125,13 +145,13 @@ fn input_at(file: &[u8], at: usize) -> Next
     if !is_at(file, parting, COMMA) {
         return request_at(file, at);
     }
-    let Figure::Said(word, end) = word_field_at(file, parting + 1) else {
+    let Figure::Said(word, end) = number_at(file, parting + 1) else {
         return request_at(file, at);
     };
     if ends_line(file, at, end) {
         return Next::Taken(Request::Input { number, word }, end + 1);
     }
-    request_at(file, at)
+    hex_input_at(file, at, number, parting)
 }
 
 // The request of the line at a place of a file, and the place after that line, as `request_at` gives them.

@@ -6,7 +6,6 @@ use borrow.Author.Needs.{needs}
 use borrow.Author.Tests.{not-false}
 use Rattle.sheet.specs.Split.{comma}
 use Rattle.sheet.specs.Number.{numberOf}
-use Rattle.sheet.specs.WordField.{wordOf}
 use Rattle.sheet.specs.Grammar.{letter-I}
 use Rattle.sheet.specs.Places.{isAt, endsLine, SaidAt, Read}
 use Rattle.sheet.proofs.PlaceLaws.{byte-at, number-said, parted, begun-inside, ended-inside, input-next}
@@ -32,16 +31,16 @@ parting : (c : tie.Else1)
     ≡ true
 parting c = sym (c .before .is-at .ensures) ∙ not-false _ (c .if1 .left)
 
-add-word-field-at : tie.Need-add-word-field-at
-add-word-field-at c = omega (arith, byte-at _ _ comma (parting c))
+add-number-at-2 : tie.Need-add-number-at-2
+add-number-at-2 c = omega (arith, byte-at _ _ comma (parting c))
 
 -- the word that was read
 word : (c : tie.After-known-told2)
-    → SaidAt wordOf (c .before .before .before .before .before .before .before .before .before .before .before .args .file .now)
+    → SaidAt numberOf (c .before .before .before .before .before .before .before .before .before .before .before .args .file .now)
     (c .before .before .before .before .before .before .before .number .given .0 .1 .0 + 1)
     (c .before .word .given .0 .0) (c .before .word .given .0 .1 .0)
 unfolding Read
-word c = rw (c .before .word .given .1) at (c .before .before .before .word-field-at .ensures)
+word c = rw (c .before .word .given .1) at (c .before .before .before .number-at2 .ensures)
 
 -- and the line's end after it
 end : (c : tie.Then2)
@@ -53,7 +52,7 @@ end c = sym (c .before .ends-line .ensures) ∙ c .if2 .taken
 
 ends-line-requires : tie.Need-ends-line-requires
 ends-line-requires c κs =
-    omega (arith, parted (number-said (number (c .before .before .before .before .before .before))) .further, parted (word c) .further)
+    omega (arith, parted (number-said (number (c .before .before .before .before .before .before))) .further, parted (number-said (word c)) .further)
 
 add-t14 : tie.Need-add-t14
 add-t14 c = omega (arith, ended-inside _ _ _ (end c))
@@ -62,7 +61,13 @@ returns-4 : tie.Need-returns-4
 returns-4 c =
     let s = c .before .before .before .before .before .before .before .before .before .before .before .before .before in
     let p = c .before .before .before .before .before .before in
-    sym (input-next (s .args .file .now) (s .args .at) (s .pre) (number (p .before .before)) (parting p) (word (c .before .before)) (end c))
+    sym (input-next (s .args .file .now) (s .args .at) (s .pre) (number (p .before .before)) (parting p) (number-said (word (c .before .before))) (end c))
+
+hex-input-at-requires : tie.Need-hex-input-at-requires
+hex-input-at-requires c κs =
+    let s = c .before .before .before .before .before .before .before .before .before .before .before .before .before in
+    let p = c .before .before .before .before .before .before in
+    record { begins = s .pre; number-said = number (p .before .before); parted = parting p }
 
 pub input-at-spec : {M : Type 1} → statement M
 input-at-spec =
@@ -77,7 +82,7 @@ input-at-spec =
     (λ c κs. search needs)
     (λ c κs. search needs)
     (λ c. search needs)
-    add-word-field-at
+    add-number-at-2
     (λ c κs. search needs)
     (λ c. search needs)
     (λ c. search needs)
@@ -86,5 +91,5 @@ input-at-spec =
     ends-line-requires
     add-t14
     returns-4
-    (λ c κs. search needs)
+    hex-input-at-requires
     (λ c. search needs))

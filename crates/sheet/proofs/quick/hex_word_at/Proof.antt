@@ -4,11 +4,11 @@ use native.Mathlib.Omega.{arith}
 use lib.ListN.{drop}
 use borrow.Author.Needs.{needs}
 use Rattle.sheet.specs.WordField.{has0x}
+use Rattle.sheet.specs.Places.{Read}
 use Rattle.sheet.proofs.SplitLaws.{between-last}
 use Rattle.sheet.proofs.HexRunLaws.{two-inside, run-word}
-use Rattle.sheet.proofs.PlaceLaws.{read-said}
-use Rattle.sheet.proofs.quick.word_field_at.Statement.{statement}
-use Rattle.sheet.proofs.quick.word_field_at.Tie as tie
+use Rattle.sheet.proofs.quick.hex_word_at.Statement.{statement}
+use Rattle.sheet.proofs.quick.hex_word_at.Tie as tie
 
 -- 0x stands there
 here : (c : tie.Then1)
@@ -28,12 +28,11 @@ returns c =
     run-word (a .file .now) (a .at) (here (c .before)) _ (c .hex-run .ensures)
 
 returns-2 : tie.Need-returns-2
-returns-2 c =
-    let a = c .before .before .before .before .before .args in
-    read-said (a .file .now) (a .at) _ (c .number-at .ensures)
+unfolding Read
+returns-2 c = tt
 
-pub word-field-at-spec : {M : Type 1} → statement M
-word-field-at-spec =
+pub hex-word-at-spec : {M : Type 1} → statement M
+hex-word-at-spec =
     tie.close
     (tie.spec
     (λ c κs. search needs)
@@ -41,5 +40,4 @@ word-field-at-spec =
     add-hex-run
     (λ c κs. search needs)
     returns
-    (λ c κs. search needs)
     returns-2)
