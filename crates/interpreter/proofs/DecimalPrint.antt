@@ -15,10 +15,10 @@ use Rattle.sheet.specs.DecimalWords.{decimalText, decimalRequests, textHas0x}
 use Rattle.sheet.specs.declared.Request.{Request}
 use Rattle.sheet.proofs.DecimalLaws.{same-text, made-text}
 use Rattle.report.specs.Print.{refusalOf}
-use Rattle.interpreter.specs.State.{State, emptyState, nextNumber, refusalFor, changed}
+use Rattle.interpreter.specs.State.{State, emptyState, nextNumber, refusalFor, changed, allAccepted}
 use Rattle.interpreter.specs.Histories.{historiesOf}
 use Rattle.interpreter.specs.Print.{answerOf, totalsPrint, printFrom, tooLong, requestsPrint, printOf}
-use Rattle.interpreter.specs.DecimalWords.{decimalPrint, no0xFrom, no0xRead, allAccepted, decimalAccepted}
+use Rattle.interpreter.specs.DecimalWords.{decimalPrint, no0xFrom, no0xRead, decimalAccepted}
 use Rattle.interpreter.proofs.PrintLaws.{from-accepted, from-refused, not-accepted}
 
 -- ---- the prints agree line by line; what is printed at the end counts only if all requests agree

@@ -11,7 +11,7 @@ use native.Mathlib.Numerals.{add-one}
 use lib.ListN.{length, length-append}
 use borrow.Author.Tests.{eqb-true, eqb-false, ltb-false}
 use Rattle.words.specs.Word.{if_then_else_}
-use Rattle.words.proofs.Laws.{either}
+use Rattle.words.proofs.Laws.{and-true, either}
 use Rattle.rules.specs.declared.Motor.{Motor}
 use Rattle.rules.specs.declared.Settings.{Settings}
 use Rattle.rules.specs.Refusals.{settingsInRange, tableAfter}
@@ -22,7 +22,7 @@ use Rattle.sheet.specs.declared.Request.{Request}
 use Rattle.sheet.specs.declared.Request.the-variants.{Motor as M, Input as I, Scan as S, Refused}
 use Rattle.report.specs.declared.Row.{Row}
 use Rattle.report.specs.Print.{rowOf, refusalOf}
-use Rattle.interpreter.specs.State.{State, emptyState, nextNumber, motorRefusal, withMotor, withWords, withWord, withScan, refusalFor, changed, stateAfter, statesAfter}
+use Rattle.interpreter.specs.State.{State, emptyState, nextNumber, motorRefusal, withMotor, withWords, withWord, withScan, refusalFor, changed, stateAfter, statesAfter, allAccepted}
 use Rattle.interpreter.specs.Print.{motorRow, rowsOf, answerOf, printFrom}
 use Rattle.interpreter.proofs.ActLaws.{accepted}
 use Rattle.interpreter.proofs.PrintLaws.{from-accepted, from-refused}
@@ -115,20 +115,15 @@ unfolding rowList
 rows-many scan n [] = refl
 rows-many scan n (m ∷ ms) = ap suc (rows-many scan (n + 1) ms)
 
--- each request is accepted, in the state that those before it leave
-pub data Accepts : State → List Request → Type 0 where
-  no-more : {t : State} → Accepts t []
-  one-more : {t : State} {r : Request} {rs : List Request} → refusalFor t r ≡ 0 → Accepts (changed t r) rs → Accepts t (r ∷ rs)
-
-pub accepts : (t : State) (rs : List Request) → Accepts t (accepteds t rs)
-unfolding accepteds if_then_else_
-accepts t [] = no-more
+pub accepts : (t : State) (rs : List Request) → allAccepted t (accepteds t rs) ≡ true
+unfolding accepteds allAccepted if_then_else_
+accepts t [] = refl
 accepts t (r ∷ rs) = go (eqb (refusalFor t r) 0) refl (accepts (changed t r) rs)
   where
-    go : (b : Bool) → eqb (refusalFor t r) 0 ≡ b → Accepts (changed t r) (accepteds (changed t r) rs)
-        → Accepts t (if b then r ∷ accepteds (changed t r) rs else [])
-    go true e a = one-more (eqb-true _ _ e) a
-    go false e a = no-more
+    go : (b : Bool) → eqb (refusalFor t r) 0 ≡ b → allAccepted (changed t r) (accepteds (changed t r) rs) ≡ true
+        → allAccepted t (if b then r ∷ accepteds (changed t r) rs else []) ≡ true
+    go true e a = rw e a
+    go false e a = refl
 
 -- M is accepted before the first scan only
 pub motor-first : (held scans number : ℕ) (s : Settings) → motorRefusal held scans number s ≡ 0 → scans ≡ 0
@@ -155,15 +150,18 @@ step-counted t (S period) n h l e =
     (rw (k, rows-many (t .scans + 1) 1 (tableAfter (t .motors) (t .words) period), length-after (t .motors) (t .words) period, add-one (t .scans), suc-mul) (ap (λ (m : ℕ). m + length (t .motors)) e), omega arith)
 step-counted t Refused n h l e = (rw (add-zero n) e, omega arith)
 
-rows-counted : {t : State} {rs : List Request} (n : ℕ) → Accepts t rs → t .scans + length rs ≤ 4294967295 → Counted t n → Counted (statesAfter t rs) (n + length (allRows t rs))
-unfolding statesAfter allRows
-rows-counted {t} n no-more l e = subst (λ (m : ℕ). Counted t m) (sym (add-zero n)) e
-rows-counted {t} n (one-more {r = r} {rs = rs} h a) l e =
+rows-counted : (t : State) (rs : List Request) (n : ℕ) → allAccepted t rs ≡ true → t .scans + length rs ≤ 4294967295 → Counted t n
+    → Counted (statesAfter t rs) (n + length (allRows t rs))
+unfolding statesAfter allRows allAccepted
+rows-counted t [] n a l e = subst (λ (m : ℕ). Counted t m) (sym (add-zero n)) e
+rows-counted t (r ∷ rs) n a l e =
+    let b = and-true (eqb (refusalFor t r) 0) (allAccepted (changed t r) rs) a in
+    let h = eqb-true (refusalFor t r) 0 (b .0) in
     let u : stateAfter t r ≡ changed t r = accepted t r h in
     let s = step-counted t r n h (omega arith) e in
     let w = rowsAfter (changed t r) r in
     let m : n + length w + length (allRows (changed t r) rs) ≡ n + length (w ++ allRows (changed t r) rs) = omega (arith, length-append w (allRows (changed t r) rs)) in
-    rw (u, ← m) (rows-counted (n + length w) a (omega (arith, s .1)) (s .0))
+    rw (u, ← m) (rows-counted (changed t r) rs (n + length w) (b .1) (omega (arith, s .1)) (s .0))
 
 -- ---- a file that is not too long has so few lines that every number is exact
 
@@ -190,6 +188,6 @@ numbered file h =
     let rs = accepteds emptyState (requestsOf file) in
     let few : length rs ≤ 65536 = omega (arith, few-accepted emptyState (requestsOf file), few-requests file) in
     record {
-      rows = sym (zero-add _) ∙ rows-counted 0 (accepts emptyState (requestsOf file)) (omega arith) refl;
+      rows = sym (zero-add _) ∙ rows-counted emptyState rs 0 (accepts emptyState (requestsOf file)) (omega arith) refl;
       line = line-exact 1 rs (omega arith);
     }

@@ -1,16 +1,15 @@
 -- What a file prints if words are decimal alone, as before change request 4. The laws in proofs/DecimalPrint.antt: a file prints that still, if no
 -- line that was read then has a word field that begins with 0x; so does each file of which every line was accepted.
 use Prim.Native.Nat.{ℕ}
-use mathlib.Core.Bool.{Bool, true, false, _&&_}
+use mathlib.Core.Bool.{Bool, true, false}
 use mathlib.Core.List.{List, [], _∷_}
 use lib.Dec.{eqb}
 use lib.ListN.{length}
 use Rattle.words.specs.Word.{if_then_else_}
 use Rattle.sheet.specs.Lines.{Text, linesOf}
 use Rattle.sheet.specs.DecimalWords.{decimalText, decimalRequests, textHas0x}
-use Rattle.sheet.specs.declared.Request.{Request}
 use Rattle.report.specs.Print.{refusalOf}
-use Rattle.interpreter.specs.State.{State, emptyState, refusalFor, changed}
+use Rattle.interpreter.specs.State.{State, emptyState, refusalFor, changed, allAccepted}
 use Rattle.interpreter.specs.Print.{tooLong, requestsPrint}
 
 unfoldable pub decimalPrint : List ℕ → List ℕ
@@ -29,9 +28,5 @@ unfoldable pub no0xRead : List ℕ → Bool
 no0xRead file = if tooLong (length file) then true else no0xFrom emptyState (linesOf file)
 
 -- Every line is accepted
-unfoldable pub allAccepted : State → List Request → Bool
-allAccepted t [] = true
-allAccepted t (r ∷ rs) = eqb (refusalFor t r) 0 && allAccepted (changed t r) rs
-
 unfoldable pub decimalAccepted : List ℕ → Bool
 decimalAccepted file = allAccepted emptyState (decimalRequests file)

@@ -1,7 +1,7 @@
 -- The state of a bench, and what the request of a line does to it: the paper's "The bench program's file", and its "Order" for M, I and S.
 -- A refused line leaves the state as it was; 0 is an accepted line.
 use Prim.Native.Nat.{ℕ, _+_, _-_, min}
-use mathlib.Core.Bool.{Bool, not, _&&_}
+use mathlib.Core.Bool.{Bool, true, not, _&&_}
 use mathlib.Core.List.{List, [], _∷_, _++_}
 use lib.Dec.{eqb, leb, ltb}
 use lib.ListN.{length, take, set}
@@ -99,6 +99,11 @@ stateAfter t r = if eqb (refusalFor t r) 0 then changed t r else t
 unfoldable pub statesAfter : State → List Request → State
 statesAfter t [] = t
 statesAfter t (r ∷ rs) = statesAfter (stateAfter t r) rs
+
+-- Each request is accepted, in the state that those before it leave
+unfoldable pub allAccepted : State → List Request → Bool
+allAccepted t [] = true
+allAccepted t (r ∷ rs) = eqb (refusalFor t r) 0 && allAccepted (changed t r) rs
 
 -- The state that a bench holds: of its arrays, the first `count` elements. Nothing depends on what lies past them.
 abbrev pub viewOf : Bench → State

@@ -1,7 +1,7 @@
 -- Hexadecimal words are read back: of all fields with 0x and k digits the print of n in k digits alone says n. Assumes nothing.
 use Prim.Native.Nat.{ℕ, zero, suc, _+_, _-_, _*_, _/_, _%_, _^_, _<_, _≤_}
 use mathlib.Core.Path.{_≡_, refl, sym, ap, subst, _∙_}
-use mathlib.Core.Bool.{Bool, true, false, _&&_, _||_}
+use mathlib.Core.Bool.{Bool, true, false, _&&_, _||_, and-true as and-one, and-assoc}
 use mathlib.Core.List.{List, [], _∷_, _++_}
 use native.Mathlib.Decide.{decLt}
 use native.Mathlib.Omega.{arith}
@@ -11,12 +11,12 @@ use lib.Seq.{length-take-le}
 use lib.Dec.{leb, ltb}
 use borrow.Author.Tests.{lt-leb, le-leb, le-ltb, lt-ltb}
 use Rattle.words.specs.Word.{if_then_else_}
-use Rattle.words.proofs.Laws.{agree-at, both-le}
+use Rattle.words.proofs.Laws.{and-true, agree-at, both-le}
 use Rattle.sheet.specs.Number.{isDigit}
-use Rattle.sheet.specs.WordField.{isHexDigit, hexDigit, isHexCount, has0x, wordOf, hexDigitOf, hexDigitsOf, hexadecimal}
-use Rattle.sheet.specs.declared.Number.the-variants.{Value, Refused}
+use Rattle.sheet.specs.WordField.{isHexDigit, hexDigit, allHexDigits, hexFrom, isHexCount, hexNumber, has0x, wordOf, hexDigitOf, hexDigitsOf, hexadecimal}
+use Rattle.sheet.specs.declared.Number.the-variants.{Value}
 use Rattle.sheet.proofs.SplitLaws.{last-byte}
-use Rattle.sheet.proofs.WordFieldLaws.{digit-small, readOn, hex-read, hex-says, hex-field}
+use Rattle.sheet.proofs.WordFieldLaws.{digit-small, HexSays, hex-says, hex-field}
 
 -- ---- one digit, both ways
 
@@ -48,31 +48,32 @@ digit-print b h = go (leb 48 b && leb b 57) refl h
     go true e h = let w = both-le {a = 48} {b = b} {c = b} {d = 57} e in rw (lt-ltb (b - 48) 10 (omega (arith, w .1))) (omega (arith, w .0))
     go false e h = let w = both-le {a = 65} {b = b} {c = b} {d = 70} h in rw (le-ltb (b - 55) 10 (omega (arith, w .0))) (omega (arith, w .0))
 
+-- ---- one digit more at the end
+
+all-more : (s : List ℕ) (b : ℕ) → allHexDigits (s ++ (b ∷ [])) ≡ (allHexDigits s && isHexDigit b)
+unfolding allHexDigits
+all-more [] b = and-one (isHexDigit b)
+all-more (x ∷ s) b = ap (λ (t : Bool). isHexDigit x && t) (all-more s b) ∙ sym (and-assoc (isHexDigit x) (allHexDigits s) (isHexDigit b))
+
+value-more : (v : ℕ) (s : List ℕ) (b : ℕ) → hexFrom v (s ++ (b ∷ [])) ≡ hexFrom v s * 16 + hexDigit b
+unfolding hexFrom
+value-more v [] b = refl
+value-more v (x ∷ s) b = value-more (v * 16 + hexDigit x) s b
+
 -- ---- the digits of n say n
 
-hex-more : (v : ℕ) (p : List ℕ) (w : ℕ) (q : List ℕ) → readOn v p ≡ Value w → readOn v (p ++ q) ≡ readOn w q
-unfolding readOn if_then_else_
-hex-more v [] w q e = let f : v ≡ w = cc in rw f
-hex-more v (b ∷ p) w q e = go (isHexDigit b) e (hex-more (v * 16 + hexDigit b) p w q)
-  where
-    go : (t : Bool) → (if t then readOn (v * 16 + hexDigit b) p else Refused) ≡ Value w
-        → (readOn (v * 16 + hexDigit b) p ≡ Value w → readOn (v * 16 + hexDigit b) (p ++ q) ≡ readOn w q)
-        → (if t then readOn (v * 16 + hexDigit b) (p ++ q) else Refused) ≡ readOn w q
-    go true e ih = ih e
-    go false e ih = let c : _≡_ {A = ℕ} 0 1 = cc in absurd (omega arith)
-
-one-more : (v d : ℕ) → d < 16 → readOn v (hexDigitOf d ∷ []) ≡ Value (v * 16 + d)
-unfolding readOn if_then_else_
-one-more v d h = rw (digit-is d h, digit-back d h)
-
-digits-say : (k n : ℕ) → n < 16 ^ k → readOn 0 (hexDigitsOf k n) ≡ Value n
-unfolding hexDigitsOf readOn
-digits-say zero n h = let z : 0 ≡ n = omega (arith, pow-zero 16) in ap Value z
+digits-say : (k n : ℕ) → n < 16 ^ k → HexSays (hexDigitsOf k n) n
+unfolding hexDigitsOf allHexDigits hexFrom
+digits-say zero n h = record { digits = refl; value = omega (arith, pow-zero 16) }
 digits-say (suc k) n h =
-    let e : n / 16 * 16 + n % 16 ≡ n = omega arith in
-    hex-more 0 (hexDigitsOf k (n / 16)) (n / 16) (hexDigitOf (n % 16) ∷ []) (digits-say k (n / 16) (omega (arith, pow-suc 16 k)))
-    ∙ one-more (n / 16) (n % 16) (omega arith)
-    ∙ ap Value e
+    let p = digits-say k (n / 16) (omega (arith, pow-suc 16 k)) in
+    let d : n % 16 < 16 = omega arith in
+    let s = hexDigitsOf k (n / 16) in
+    let b = hexDigitOf (n % 16) in
+    record {
+      digits = rw (all-more s b, p .digits, digit-is (n % 16) d);
+      value = rw (value-more 0 s b, p .value, digit-back (n % 16) d) (omega arith);
+    }
 
 hex-length : (k n : ℕ) → length (hexDigitsOf k n) ≡ k
 unfolding hexDigitsOf
@@ -80,43 +81,33 @@ hex-length zero n = refl
 hex-length (suc k) n = omega (arith, length-append (hexDigitsOf k (n / 16)) (hexDigitOf (n % 16) ∷ []), hex-length k (n / 16))
 
 pub hex-read-back : (k n : ℕ) → 1 ≤ k → k ≤ 8 → n < 16 ^ k → wordOf (hexadecimal k n) ≡ Value n
-unfolding wordOf has0x isHexCount hexadecimal if_then_else_
-hex-read-back k n h l f = hex-read (hexDigitsOf k n) ∙ rw (hex-length k n, le-leb 1 k h, le-leb k 8 l) (digits-say k n f)
+unfolding wordOf has0x hexNumber isHexCount hexadecimal if_then_else_
+hex-read-back k n h l f =
+    let d = digits-say k n f in
+    rw (hex-length k n, le-leb 1 k h, le-leb k 8 l, d .digits, d .value)
 
 -- ---- and nothing else does
 
 -- digits that say n: the last is the last digit of n, and those before it say the rest
-record Last (v : ℕ) (p : List ℕ) (b n : ℕ) : Type 0 where
-  rest : readOn v p ≡ Value (n / 16)
+record Last (p : List ℕ) (b n : ℕ) : Type 0 where
+  rest : HexSays p (n / 16)
   digit : b ≡ hexDigitOf (n % 16)
 
-last : (v : ℕ) (p : List ℕ) (b n : ℕ) → readOn v (p ++ (b ∷ [])) ≡ Value n → Last v p b n
-unfolding readOn if_then_else_
-last v [] b n e = go (isHexDigit b) refl e
-  where
-    go : (t : Bool) → isHexDigit b ≡ t → (if t then Value (v * 16 + hexDigit b) else Refused) ≡ Value n → Last v [] b n
-    go true f e =
-        let l = digit-small b f in
-        let m : v * 16 + hexDigit b ≡ n = cc in
-        let q : v ≡ n / 16 = omega arith in
-        let r : hexDigit b ≡ n % 16 = omega arith in
-        record { rest = ap Value q; digit = sym (digit-print b f) ∙ ap hexDigitOf r }
-    go false f e = let c : _≡_ {A = ℕ} 0 1 = cc in absurd (omega arith)
-last v (x ∷ p) b n e = go (isHexDigit x) refl e (last (v * 16 + hexDigit x) p b n)
-  where
-    go : (t : Bool) → isHexDigit x ≡ t → (if t then readOn (v * 16 + hexDigit x) (p ++ (b ∷ [])) else Refused) ≡ Value n
-        → (readOn (v * 16 + hexDigit x) (p ++ (b ∷ [])) ≡ Value n → Last (v * 16 + hexDigit x) p b n) → Last v (x ∷ p) b n
-    go true f e ih = let l = ih e in record { rest = rw f (l .rest); digit = l .digit }
-    go false f e ih = let c : _≡_ {A = ℕ} 0 1 = cc in absurd (omega arith)
+last : (p : List ℕ) (b n : ℕ) → HexSays (p ++ (b ∷ [])) n → Last p b n
+last p b n h =
+    let e = and-true (allHexDigits p) (isHexDigit b) (sym (all-more p b) ∙ h .digits) in
+    let v : hexFrom 0 p * 16 + hexDigit b ≡ n = sym (value-more 0 p b) ∙ h .value in
+    let l = digit-small b (e .1) in
+    let r : hexDigit b ≡ n % 16 = omega arith in
+    record { rest = record { digits = e .0; value = omega arith }; digit = sym (digit-print b (e .1)) ∙ ap hexDigitOf r }
 
-digits-spelt : (k : ℕ) (s : List ℕ) (n : ℕ) → length s ≡ k → readOn 0 s ≡ Value n → s ≡ hexDigitsOf k n
+digits-spelt : (k : ℕ) (s : List ℕ) (n : ℕ) → length s ≡ k → HexSays s n → s ≡ hexDigitsOf k n
 unfolding hexDigitsOf
 digits-spelt zero [] n h e = refl
 digits-spelt zero (b ∷ s) n h e = absurd (omega arith)
 digits-spelt (suc k) s n h e =
     let p = take k s in
-    let b = getD s k 0 in
-    let l = last 0 p b n (subst (λ (t : List ℕ). readOn 0 t ≡ Value n) (last-byte k s h) e) in
+    let l = last p (getD s k 0) n (subst (λ (t : List ℕ). HexSays t n) (last-byte k s h) e) in
     last-byte k s h
     ∙ ap (λ (x : ℕ). p ++ (x ∷ [])) (l .digit)
     ∙ ap (λ (t : List ℕ). t ++ (hexDigitOf (n % 16) ∷ [])) (digits-spelt k p (n / 16) (length-take-le k s (omega arith)) (l .rest))

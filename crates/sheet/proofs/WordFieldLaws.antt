@@ -1,5 +1,5 @@
 -- Laws of hexadecimal digits and of the words that fields say. Assumes nothing.
-use Prim.Native.Nat.{ℕ, suc, _+_, _-_, _*_, _<_, _≤_, _^_}
+use Prim.Native.Nat.{ℕ, suc, _-_, _<_, _≤_, _^_}
 use mathlib.Core.Path.{_≡_, refl, sym, ap, _∙_}
 use mathlib.Core.Bool.{Bool, true, false, _&&_, _||_, and-false, false≢true}
 use mathlib.Core.List.{List, [], _∷_}
@@ -13,7 +13,6 @@ use Rattle.words.proofs.Laws.{and-true, both-le}
 use Rattle.sheet.specs.Split.{indexOf}
 use Rattle.sheet.specs.Number.{isDigit, numberOf}
 use Rattle.sheet.specs.WordField.{isHexDigit, hexDigit, allHexDigits, hexFrom, isHexCount, hexNumber, has0x, wordOf}
-use Rattle.sheet.specs.declared.Number.{Number}
 use Rattle.sheet.specs.declared.Number.the-variants.{Value, Refused}
 use Rattle.sheet.proofs.NumberLaws.{number-spells, digits-free}
 
@@ -26,30 +25,6 @@ digit-small b h = go (leb 48 b && leb b 57) refl h
     go : (t : Bool) → (leb 48 b && leb b 57) ≡ t → (t || (leb 65 b && leb b 70)) ≡ true → (if t then b - 48 else b - 55) < 16
     go true e h = omega (arith, both-le {a = 48} {b = b} {c = b} {d = 57} e .1)
     go false e h = omega (arith, both-le {a = 65} {b = b} {c = b} {d = 70} h .1)
-
--- the same in one: digits read one by one, and none said at a byte that is no digit
-unfoldable pub readOn : ℕ → List ℕ → Number
-readOn v [] = Value v
-readOn v (b ∷ bs) = if isHexDigit b then readOn (v * 16 + hexDigit b) bs else Refused
-
-read-all : (v : ℕ) (s : List ℕ) → readOn v s ≡ (if allHexDigits s then Value (hexFrom v s) else Refused)
-unfolding readOn allHexDigits hexFrom if_then_else_
-read-all v [] = refl
-read-all v (b ∷ s) = go (isHexDigit b) (read-all (v * 16 + hexDigit b) s)
-  where
-    go : (t : Bool) → readOn (v * 16 + hexDigit b) s ≡ (if allHexDigits s then Value (hexFrom (v * 16 + hexDigit b) s) else Refused)
-        → (if t then readOn (v * 16 + hexDigit b) s else Refused) ≡ (if t && allHexDigits s then Value (hexFrom (v * 16 + hexDigit b) s) else Refused)
-    go true ih = ih
-    go false ih = refl
-
-pub hex-read : (s : List ℕ) → hexNumber s ≡ (if isHexCount (length s) then readOn 0 s else Refused)
-unfolding hexNumber if_then_else_
-hex-read s = go (isHexCount (length s)) (read-all 0 s)
-  where
-    go : (t : Bool) → readOn 0 s ≡ (if allHexDigits s then Value (hexFrom 0 s) else Refused)
-        → (if t && allHexDigits s then Value (hexFrom 0 s) else Refused) ≡ (if t then readOn 0 s else Refused)
-    go true e = sym e
-    go false e = refl
 
 -- eight digits say a number of 32 bits
 pub hex-fits : (k : ℕ) → k ≤ 8 → 16 ^ k ≤ 4294967296
@@ -89,17 +64,22 @@ number-word s n e = rw (number-no-0x s n e) e
 
 -- ---- what the field of a word is: a number, or 0x and digits
 
-pub hex-says : (s : List ℕ) (n : ℕ) → hexNumber s ≡ Value n → readOn 0 s ≡ Value n
-unfolding if_then_else_
-hex-says s n e = go (isHexCount (length s)) (sym (hex-read s) ∙ e)
+pub record HexSays (s : List ℕ) (n : ℕ) : Type 0 where
+  pub digits : allHexDigits s ≡ true
+  pub value : hexFrom 0 s ≡ n
+
+pub hex-says : (s : List ℕ) (n : ℕ) → hexNumber s ≡ Value n → HexSays s n
+unfolding hexNumber if_then_else_
+hex-says s n e = go (isHexCount (length s)) (allHexDigits s) refl e
   where
-    go : (t : Bool) → (if t then readOn 0 s else Refused) ≡ Value n → readOn 0 s ≡ Value n
-    go true e = e
-    go false e = let c : _≡_ {A = ℕ} 0 1 = cc in absurd (omega arith)
+    go : (t d : Bool) → allHexDigits s ≡ d → (if t && d then Value (hexFrom 0 s) else Refused) ≡ Value n → HexSays s n
+    go true true f e = record { digits = f; value = cc }
+    go true false f e = let c : _≡_ {A = ℕ} 0 1 = cc in absurd (omega arith)
+    go false d f e = let c : _≡_ {A = ℕ} 0 1 = cc in absurd (omega arith)
 
 data WordIs (s : List ℕ) (n : ℕ) : Type 0 where
   decimal : numberOf s ≡ Value n → WordIs s n
-  hex : s ≡ 48 ∷ 120 ∷ drop 2 s → readOn 0 (drop 2 s) ≡ Value n → WordIs s n
+  hex : s ≡ 48 ∷ 120 ∷ drop 2 s → HexSays (drop 2 s) n → WordIs s n
 
 word-is : (s : List ℕ) (n : ℕ) → wordOf s ≡ Value n → WordIs s n
 unfolding wordOf if_then_else_
@@ -122,15 +102,12 @@ low : (b : ℕ) → b < 48 → isHexDigit b ≡ false
 unfolding isHexDigit isDigit
 low b h = rw (lt-leb 48 b h, lt-leb 65 b (omega arith))
 
-hex-free : (b : ℕ) (s : List ℕ) (v n : ℕ) → b < 48 → readOn v s ≡ Value n → indexOf b s ≡ length s
-unfolding readOn indexOf if_then_else_
-hex-free b [] v n h e = refl
-hex-free b (x ∷ s) v n h e = go (isHexDigit x) refl e (hex-free b s (v * 16 + hexDigit x) n h)
-  where
-    go : (t : Bool) → isHexDigit x ≡ t → (if t then readOn (v * 16 + hexDigit x) s else Refused) ≡ Value n
-        → (readOn (v * 16 + hexDigit x) s ≡ Value n → indexOf b s ≡ length s) → (if eqb x b then 0 else suc (indexOf b s)) ≡ suc (length s)
-    go false f e ih = let c : _≡_ {A = ℕ} 0 1 = cc in absurd (omega arith)
-    go true f e ih = rw (ne-eqb x b (λ g. false≢true (sym (low x (omega arith)) ∙ f))) (ap suc (ih e))
+hex-free : (b : ℕ) (s : List ℕ) → isHexDigit b ≡ false → allHexDigits s ≡ true → indexOf b s ≡ length s
+unfolding allHexDigits indexOf if_then_else_
+hex-free b [] f e = refl
+hex-free b (x ∷ s) f e =
+    let w = and-true (isHexDigit x) (allHexDigits s) e in
+    rw (ne-eqb x b (λ g. false≢true (sym f ∙ ap isHexDigit (sym g) ∙ w .0))) (ap suc (hex-free b s f (w .1)))
 
 pub word-free : (b : ℕ) (s : List ℕ) (n : ℕ) → b < 48 → wordOf s ≡ Value n → indexOf b s ≡ length s
 unfolding indexOf isDigit if_then_else_
@@ -140,5 +117,5 @@ word-free b s n h e = go (word-is s n e)
     go (decimal d) = digits-free b s (rw (lt-leb 48 b h)) (number-spells s n d .0 .digits)
     go (hex f d) =
         ap (indexOf b) f
-        ∙ rw (ne-eqb 48 b (λ g. omega arith), ne-eqb 120 b (λ g. omega arith)) (ap suc (ap suc (hex-free b (drop 2 s) 0 n h d)))
+        ∙ rw (ne-eqb 48 b (λ g. omega arith), ne-eqb 120 b (λ g. omega arith)) (ap suc (ap suc (hex-free b (drop 2 s) (low b h) (d .digits))))
         ∙ sym (ap length f)
