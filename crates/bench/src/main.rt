@@ -1,4 +1,6 @@
 // The bench program: reads a file from standard input, and prints what the block reports of it.
+#![tactic(auto)]
+
 use libc::{STDIN_FILENO, STDOUT_FILENO};
 
 // One byte more than a file may have, so that a longer one shows.

@@ -1,4 +1,6 @@
 // Where motors start, and what is claimed of them from there on: demand 3 of the paper.
+#![tactic(auto)]
+
 ghost use Rattle.std.specs.Prelude.{◌≡◌};
 ghost use Rattle.rules.specs.Record.{fresh};
 ghost use Rattle.book.specs.Log.{Log};

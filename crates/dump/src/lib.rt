@@ -1,5 +1,7 @@
 // The dump of a whole file, line by line: `begin`, then `fill` up to the end. It is `dump_of` of the file (proofs/Pieces.antt). How many
 // lines `fill` takes is open.
+#![tactic(auto)]
+
 mod course;
 mod scans;
 mod signals;

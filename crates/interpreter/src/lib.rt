@@ -1,5 +1,7 @@
 // The bench: its state by value, and what a line of a file does to it. The meanings are definitions in specs/. They fix what open functions
 // answer on any input, but for what lies past the motors of a bench (`view_of`).
+#![tactic(auto)]
+
 mod acts;
 mod lines;
 

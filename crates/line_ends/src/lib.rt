@@ -1,5 +1,7 @@
 // The search for LF, for programs in Rust or C to link: they test it and measure it as it is. Where there is no LF, the
 // answer is the slice's length.
+#![tactic(auto)]
+
 ghost use Rattle.std.specs.Prelude.{◌≡◌, length};
 ghost use Rattle.sheet.specs.Lines.{found_lf};
 ghost use Rattle.line_ends.specs.Place.{place_or};

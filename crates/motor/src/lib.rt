@@ -1,4 +1,6 @@
 // One motor's record taken through one scan, by value.
+#![tactic(auto)]
+
 ghost use Rattle.std.specs.Prelude.{◌≡◌};
 ghost use Rattle.rules.specs.Record.{fresh};
 ghost use Rattle.rules.specs.Refusals.{settings_in_range, status_in_range, output_in_range, in_range, period_ok, word_ok, one_refusal, one_after};

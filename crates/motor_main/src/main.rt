@@ -1,4 +1,6 @@
 // Runs the paper's scans and each refusal of a single motor through the open functions.
+#![tactic(auto)]
+
 ghost use Rattle.std.specs.Prelude.{◌≡◌, true};
 ghost use Rattle.rules.specs.Record.{fresh};
 ghost use Rattle.rules.specs.Refusals.{one_after};

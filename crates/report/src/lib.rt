@@ -1,5 +1,7 @@
 // The lines of the print, put into a lent buffer. What is printed is defined in specs/Print.antt; specs/Put.antt says what
 // putting does to a buffer of any length, at any place.
+#![tactic(auto)]
+
 ghost use Rattle.std.specs.Prelude.{[], ◌∷◌};
 ghost use Rattle.report.specs.Put.{Put};
 ghost use Rattle.report.specs.Print.{decimal, after_comma, line_of, row_of, totals_row_of, refusal_of};

@@ -1,5 +1,6 @@
 // A motor's settings and record, and what its two switches read. What the fields mean, and the rules of a scan, are
 // definitions in specs/; the functions are in the crates above.
+#![tactic(auto)]
 
 // OPS_1, OPS_2, the monitoring time W and the pulse time U, in milliseconds.
 #[derive(Drop)]

@@ -1,5 +1,7 @@
 // The bench program's file: its lines, their fields, the numbers in these, and the requests that lines make. What is read
 // is defined in specs/, for every list of bytes; every function exported here is equal to its definition on any input.
+#![tactic(auto)]
+
 mod fields;
 mod lines;
 mod numbers;

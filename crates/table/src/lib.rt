@@ -1,4 +1,6 @@
 // Scans over lent records, and one over an array by value.
+#![tactic(auto)]
+
 ghost use Rattle.std.specs.Prelude.{◌≡◌, ◌++◌, ◌≤◌, take, drop};
 ghost use Rattle.rules.specs.Refusals.{most_motors, misfit, one_refusal, one_after, table_refusal, table_after, part_refusal, part_after};
 ghost use Rattle.table.specs.Pass.{first_code, next_code, to_test, to_step};

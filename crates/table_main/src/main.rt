@@ -1,4 +1,6 @@
 // Runs tables of motors through the open functions: a full one, one too many, none, and each refusal.
+#![tactic(auto)]
+
 ghost use Rattle.std.specs.Prelude.{◌≡◌, true, replicate};
 ghost use Rattle.rules.specs.Record.{fresh};
 ghost use Rattle.rules.specs.Refusals.{part_refusal, part_after};

@@ -1,5 +1,7 @@
 // Running totals of a motor: what is counted and added up scan by scan, so that a file's end can print it. The totals themselves
 // are definitions over the motor's history, in specs/Totals.antt.
+#![tactic(auto)]
+
 ghost use Rattle.std.specs.Prelude.{◌+◌, ◌≡◌};
 ghost use Rattle.rules.specs.declared.Settings.{Settings};
 ghost use Rattle.book.specs.Log.{Log};

@@ -1,5 +1,7 @@
 // The lines of a value change dump (IEEE 1364), put into a lent buffer. What they are is defined in specs/Text.antt, and what a dump says
 // to a reader in specs/Reader.antt.
+#![tactic(auto)]
+
 ghost use Rattle.std.specs.Prelude.{◌≡◌, [], ◌∷◌};
 ghost use Rattle.report.specs.Put.{Put};
 ghost use Rattle.vcd.specs.WireStart.{wire_start};

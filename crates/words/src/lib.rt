@@ -1,5 +1,7 @@
 // Single bits of 32-bit words, by shift and mask. Every function is defined for any index: a word has the bits 0 to 31
 // and no others.
+#![tactic(auto)]
+
 ghost use Rattle.std.specs.Prelude.{◌≡◌};
 ghost use Rattle.words.specs.Word.{if◌then◌else◌, bit_of, is_set, without, with_bit, without_bit, rose};
 

@@ -1,0 +1,7 @@
+use Rattle.words.specs.Word.{is_set}
+use borrow.Author.Rules.{rules}
+use Rattle.words.proofs.has.Goals as goal
+
+pub returns : goal.returns
+unfolding is_set
+returns c = cc
