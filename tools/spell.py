@@ -100,9 +100,13 @@ def turned(text, to):
 def turned_antt(text, to):
     """Code is turned; of a comment what stands between backticks, and words that no prose has (with a capital inside)."""
     out = []
+    borrowed = set().union(*(borrows(line) or set() for line in text.split("\n")))
+    to = {a: b for a, b in to.items() if a not in borrowed}
     for line in text.split("\n"):
         m = re.match(r"^(\s*--)(.*)$", line)
-        if m:
+        if borrows(line) is not None:
+            pass
+        elif m:
             line = m.group(1) + in_prose(m.group(2), to)
         elif " -- " in line:
             a, b = line.split(" -- ", 1)
@@ -131,6 +135,15 @@ def turned_rt(text, to):
             clause = max(0, clause + line.count("{") - line.count("}")) if not s.startswith("ghost use") else 0
         out.append(line)
     return "\n".join(out)
+
+
+def borrows(line):
+    """What a line takes from a library, and not from a crate of this repository, as it is called there; None where it takes nothing."""
+    m = re.match(r"\s*(?:pub )?use ([^\s{]+)\.\{([^}]*)\}", line)
+    parts = m.group(1).split(".") if m else []
+    if not m or parts[0] == "Rattle" and len(parts) > 1 and os.path.isdir(os.path.join(ROOT, "crates", parts[1])):
+        return None
+    return {n.strip() for n in m.group(2).split(",")}
 
 
 def main():
@@ -167,7 +180,8 @@ def main():
                 continue
             text = open(p, encoding="utf-8").read()
             lemmas = {n: n + "_lem" for n, there in BEFORE.items() if f.endswith(".antt") and os.path.relpath(p, ROOT).startswith(there)}
-            new = turn(text, {**(both if f.endswith((".edit", ".md")) else to), **lemmas})
+            names = {**(both if f.endswith((".edit", ".md")) else to), **lemmas}
+            new = turn(text, names)
             if new != text:
                 open(p, "w", encoding="utf-8").write(new)
 

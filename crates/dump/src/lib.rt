@@ -11,7 +11,7 @@ use interpreter::Bench;
 
 // A bench at a place of a file, and all periods up to there, added up. Its totals are not kept, and mean nothing. A place past the file's
 // end: all is put.
-#[derive(Drop)]
+#[derive(Clone, Copy)]
 pub struct Recording {
     pub bench: Bench,
     pub at: usize,
@@ -19,7 +19,7 @@ pub struct Recording {
 }
 
 // The recording after some lines, and the place after what they put.
-#[derive(Drop)]
+#[derive(Clone, Copy)]
 pub struct Recorded {
     pub recording: Recording,
     pub to: usize,

@@ -13,7 +13,7 @@ use totals::Totals;
 
 // The first `count` elements of the arrays are in use: the motors by rising number, the word that each holds, and their totals,
 // which stand last, since a bench is copied faster so.
-#[derive(Drop)]
+#[derive(Clone, Copy)]
 pub struct Bench {
     pub motors: [Motor; MOST_MOTORS],
     pub words: [u32; MOST_MOTORS],
@@ -23,7 +23,7 @@ pub struct Bench {
 }
 
 // What a request makes: its refusal, 0 if it is accepted, and the bench after it.
-#[derive(Drop)]
+#[derive(Clone, Copy)]
 pub struct Acted {
     pub refusal: u32,
     pub bench: Bench,

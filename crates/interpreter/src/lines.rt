@@ -8,14 +8,14 @@ use sheet::{Next, Request, next_request};
 use table::MOST_MOTORS;
 
 // An I line that is accepted, with the place of the next line; or any other line.
-#[derive(Drop)]
+#[derive(Clone, Copy)]
 pub enum NextInput {
     Word { number: u32, word: u32, next: usize },
     Other,
 }
 
 // The words after a run of I lines, and the place and number of the next line.
-#[derive(Drop)]
+#[derive(Clone, Copy)]
 pub struct Inputs {
     pub words: [u32; MOST_MOTORS],
     pub at: usize,
@@ -67,7 +67,7 @@ pub fn take_inputs(
 }
 
 // An S line whose period is one of a scan, with the place of the next line; or any other line.
-#[derive(Drop)]
+#[derive(Clone, Copy)]
 pub enum NextScan {
     Period { period: u32, next: usize },
     Other,

@@ -30,7 +30,7 @@ const PERIOD_MAX: u32 = 10000;
 const WORD_MAX: u32 = 131071;
 
 // What a scan makes: its refusal, 0 if it is accepted, and the record after it.
-#[derive(Drop)]
+#[derive(Clone, Copy)]
 pub struct Scanned {
     pub refusal: u32,
     pub motor: Motor,

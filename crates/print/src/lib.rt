@@ -9,7 +9,7 @@ pub use course::{begin, fill};
 use interpreter::Bench;
 
 // A bench at a place of a file, where the line of this number begins. A place past the file's end: all is printed.
-#[derive(Drop)]
+#[derive(Clone, Copy)]
 pub struct Sitting {
     pub bench: Bench,
     pub at: usize,
@@ -17,7 +17,7 @@ pub struct Sitting {
 }
 
 // The sitting after some lines, and the place after what they put.
-#[derive(Drop)]
+#[derive(Clone, Copy)]
 pub struct Advanced {
     pub sitting: Sitting,
     pub to: usize,

@@ -15,7 +15,7 @@ const COMMA: u8 = b',';
 const LF: u8 = b'\n';
 
 // A motor's line after a scan.
-#[derive(Drop)]
+#[derive(Clone, Copy)]
 pub struct Row {
     pub scan: u32,
     pub number: u32,
@@ -28,7 +28,7 @@ pub struct Row {
 }
 
 // A motor's line at the end of a file.
-#[derive(Drop)]
+#[derive(Clone, Copy)]
 pub struct TotalsRow {
     pub number: u32,
     pub issued: u32,

@@ -370,7 +370,7 @@ fresh_in_range s h = simp h
 pub scans_in_range : (m : Motor) (is : List Input) → in_range m ≡ true → in_range (scans m is) ≡ true
 unfolding scans
 scans_in_range m [] h = h
-scans_in_range m (i ∷ is) h = scans_in_range _ is (scan_in_range m i.word i.period h)
+scans_in_range m (i ∷ is) h = scans_in_range (one_after m i.word i.period) is (scan_in_range m i.word i.period h)
 
 -- A motor that starts fresh with settings in range is never refused by 6.
 pub never_out_of_range : (s : Settings) → settings_in_range s ≡ true → (is : List Input) (word period : ℕ)

@@ -3,7 +3,7 @@
 #![tactic(auto)]
 
 // OPS_1, OPS_2, the monitoring time W and the pulse time U, in milliseconds.
-#[derive(Drop)]
+#[derive(Clone, Copy)]
 pub struct Settings {
     pub ops1: u32,
     pub ops2: u32,
@@ -13,7 +13,7 @@ pub struct Settings {
 
 // What the book of commands holds of a motor too: mode, last sure position, position, command under way, end in this
 // scan, flags and previous input word.
-#[derive(Drop)]
+#[derive(Clone, Copy)]
 pub struct Status {
     pub mode: u32,
     pub sure: u32,
@@ -25,14 +25,14 @@ pub struct Status {
 }
 
 // An output, 0 none, 1 On or 2 Off, and its pulse sum.
-#[derive(Drop)]
+#[derive(Clone, Copy)]
 pub struct Output {
     pub state: u32,
     pub sum: u32,
 }
 
 // A motor's record: `sum` is the time sum of the command under way.
-#[derive(Drop)]
+#[derive(Clone, Copy)]
 pub struct Motor {
     pub settings: Settings,
     pub status: Status,
@@ -41,7 +41,7 @@ pub struct Motor {
 }
 
 // What the switches read: a position, or none for one of two causes.
-#[derive(Drop)]
+#[derive(Clone, Copy)]
 pub enum Reading {
     Off,
     On,

@@ -18,14 +18,14 @@ pub use requests::{parse, refusal};
 pub use word_fields::read_word;
 
 // Where a search came to.
-#[derive(Drop)]
+#[derive(Clone, Copy)]
 pub enum Found {
     At(usize),
     Nothing,
 }
 
 // What stands at a place of a file.
-#[derive(Drop)]
+#[derive(Clone, Copy)]
 pub enum Line {
     // A line up to this place, where its LF stands.
     Until(usize),
@@ -36,14 +36,14 @@ pub enum Line {
 }
 
 // The number that a field says.
-#[derive(Drop)]
+#[derive(Clone, Copy)]
 pub enum Number {
     Value(u32),
     Refused,
 }
 
 // What a line asks for.
-#[derive(Drop)]
+#[derive(Clone, Copy)]
 pub enum Request {
     // M,number,OPS_1,OPS_2,W,U
     Motor {
@@ -66,7 +66,7 @@ pub enum Request {
 }
 
 // A file's next request, and the place to go on from.
-#[derive(Drop)]
+#[derive(Clone, Copy)]
 pub enum Next {
     Taken(Request, usize),
     Done,

@@ -14,7 +14,7 @@ use crate::word_fields::{has_0x, hex_run};
 use crate::{Next, Request};
 
 // What is read at a place where a number or a word may stand.
-#[derive(Drop)]
+#[derive(Clone, Copy)]
 pub enum Figure {
     // Its value, and the place after its last digit.
     Said(u32, usize),

@@ -111,7 +111,7 @@ pub fn refusal_array(
     code
 }
 
-#[derive(Drop)]
+#[derive(Clone, Copy)]
 pub struct ScannedTable {
     pub refusal: u32,
     pub records: [Motor; MOST_MOTORS],

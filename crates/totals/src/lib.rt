@@ -17,7 +17,7 @@ use words::choose;
 const MOST: u32 = 4294967295;
 
 // What the T line of a motor has, but for the motor's number and whether a command is under way, which its record says.
-#[derive(Drop)]
+#[derive(Clone, Copy)]
 pub struct Totals {
     pub issued: u32,
     pub confirmed: u32,

@@ -2,7 +2,7 @@
 -- no other code anything is said. Assumes nothing.
 use Prim.Native.Nat.{ℕ, zero, suc, ◌+◌, ◌*◌, ◌<◌, ◌≤◌}
 use mathlib.Core.Path.{◌≡◌, refl, ap, ◌∙◌}
-use mathlib.Core.Bool.{Bool, true, false, not, ◌&&◌, and-false, and_true}
+use mathlib.Core.Bool.{Bool, true, false, not, ◌&&◌, and-false, and-true}
 use mathlib.Core.List.{List, [], ◌∷◌, ◌++◌, append_assoc, append-nil, map}
 use native.Mathlib.Omega.{arith}
 use native.Mathlib.Decide.{dec_lt}
@@ -193,7 +193,7 @@ changes_read i at v time k j [] ws rest e h g l = absurd (omega arith)
 changes_read i at v time k j (x ∷ vs) [] rest e h g l = absurd (omega arith)
 changes_read i at v time k zero (x ∷ vs) (y ∷ ws) rest e h g l =
     let this : k ≡ i = omega arith in
-    rw (append_assoc, change_read (code_of i) at v time k (differs x y) y, this, same_code i, le-leb time at l, and_true (differs x y))
+    rw (append_assoc, change_read (code_of i) at v time k (differs x y) y, this, same_code i, le-leb time at l, and-true (differs x y))
     (changes_pass (code_of i) at _ time (i + 1) vs ws rest (λ m b _. rw (other_code m i (λ q. omega arith))))
 changes_read i at v time k (suc j) (x ∷ vs) (y ∷ ws) rest e h g l =
     rw (append_assoc, change_read (code_of i) at v time k (differs x y) y, other_code k i (λ q. omega arith), and-false (differs x y))
