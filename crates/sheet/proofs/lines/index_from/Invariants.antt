@@ -1,0 +1,15 @@
+use Prim.Native.Nat.{◌+◌, ◌-◌}
+use mathlib.Core.Path.{◌≡◌}
+use native.Mathlib.Omega.{arith}
+use native.Mathlib.Numerals.{add-one}
+use lib.ListN.{length, drop}
+use Rattle.sheet.specs.Split.{index_of}
+use Rattle.sheet.proofs.SplitLaws.{index_hit, index_miss, index_past}
+use Rattle.sheet.proofs.lines.index_from.Given as goal
+
+-- no b stands between `at` and i
+abbrev pub invariant-loop-i : goal.invariant-loop-i
+invariant-loop-i l = l.at + index_of l.b (drop l.at l.s) ≡ l.i + index_of l.b (drop l.i l.s)
+
+abbrev pub decreases-loop-i : goal.decreases-loop-i
+decreases-loop-i l = length l.s - l.i

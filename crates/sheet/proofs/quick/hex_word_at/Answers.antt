@@ -1,0 +1,29 @@
+use mathlib.Core.Path.{◌≡◌, ◌∙◌, sym, ap}
+use mathlib.Core.Bool.{true}
+use native.Mathlib.Omega.{arith}
+use lib.ListN.{drop}
+use borrow.Author.Rules.{rules}
+use Rattle.sheet.specs.WordField.{has0x}
+use Rattle.sheet.specs.Places.{Read}
+use Rattle.sheet.proofs.SplitLaws.{between_last}
+use Rattle.sheet.proofs.HexRunLaws.{two_inside, run_word}
+use Rattle.sheet.proofs.quick.hex_word_at.Goals as goal
+
+pub overflow_add-at : goal.overflow_add-at
+overflow_add-at c =
+    let a = c.args in
+    omega (
+      arith,
+      two_inside a.file.now a.at ((let a = c.args in
+          ap has0x (sym (between_last a.at a.file.now) ∙ sym c.part.ensures) ∙ sym c.has_0x.ensures ∙ c.if-has_0x.true)),
+    )
+
+pub returns-then-has_0x : goal.returns-then-has_0x
+returns-then-has_0x c =
+    let a = c.args in
+    run_word a.file.now a.at ((let a = c.args in
+    ap has0x (sym (between_last a.at a.file.now) ∙ sym c.part.ensures) ∙ sym c.has_0x.ensures ∙ c.if-has_0x.true)) _ c.hex_run.ensures
+
+pub returns : goal.returns
+unfolding Read
+returns c = tt

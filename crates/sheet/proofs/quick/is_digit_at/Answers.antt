@@ -1,0 +1,13 @@
+use borrow.Author.Rules.{rules}
+use borrow.Author.Tests.{lt-ltb, le-ltb}
+use Rattle.sheet.specs.Number.{is_digit}
+use Rattle.sheet.specs.Places.{is_digit_at}
+use Rattle.sheet.proofs.quick.is_digit_at.Goals as goal
+
+pub returns-then-at-file : goal.returns-then-at-file
+unfolding is_digit_at is_digit
+returns-then-at-file c = simp (lt-ltb _ _ c.if-at-file.true)
+
+pub returns : goal.returns
+unfolding is_digit_at
+returns c = simp (le-ltb _ _ c.if-at-file.false)

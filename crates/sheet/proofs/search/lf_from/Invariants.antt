@@ -1,0 +1,15 @@
+use Prim.Native.Nat.{◌+◌, ◌-◌}
+use mathlib.Core.Path.{◌≡◌, refl, sym, ◌∙◌}
+use native.Mathlib.Omega.{arith}
+use lib.ListN.{drop}
+use borrow.Author.Rules.{rules}
+use Rattle.sheet.specs.Split.{LF, index_of}
+use Rattle.sheet.proofs.WordLaws.{index_skip}
+use Rattle.sheet.proofs.search.lf_from.Given as goal
+
+-- no LF stands between `at` and i
+abbrev pub invariant-loop-i : goal.invariant-loop-i
+invariant-loop-i l = l.at + index_of LF (drop l.at l.s) ≡ l.i + index_of LF (drop l.i l.s)
+
+abbrev pub decreases-loop-i : goal.decreases-loop-i
+decreases-loop-i l = l.places - l.i
