@@ -1,0 +1,7 @@
+use Rattle.rules.specs.Steps.{starts}
+use borrow.Author.Rules.{rules}
+use Rattle.status.proofs.choice.is_starting.Goals as goal
+
+pub returns : goal.returns
+unfolding starts
+returns c = cc

@@ -1,0 +1,7 @@
+use Rattle.rules.specs.Steps.{issued}
+use borrow.Author.Rules.{rules}
+use Rattle.status.proofs.choice.to_issue.Goals as goal
+
+pub returns : goal.returns
+unfolding issued
+returns c = cc

@@ -1,0 +1,7 @@
+use Rattle.rules.specs.Record.{is_on}
+use borrow.Author.Rules.{rules}
+use Rattle.status.proofs.command.is_on.Goals as goal
+
+pub returns : goal.returns
+unfolding is_on
+returns c = cc

@@ -1,0 +1,7 @@
+use Rattle.rules.specs.Steps.{flags4}
+use borrow.Author.Rules.{rules}
+use Rattle.status.proofs.end.flags_now.Goals as goal
+
+pub returns : goal.returns
+unfolding flags4
+returns c = cc
