@@ -7,7 +7,7 @@ use Rattle.print.proofs.course.refuse_scan.Tie as tie
 returns : tie.Need-returns
 returns c =
     let e = c.before.before.before.before.before.before.before.before.before in
-    let r = c.before.before.before.before.scan_refusal_lem in
+    let r = c.before.before.before.before.scan_refusal in
     rw c.stand.ensures
     (stops e.requires.here (record { refusal = r.result; bench = e.args.s.bench }) r.ensures (λ z. e.requires.refused (sym r.ensures ∙ z)) c.before.before.before.put-refusal.ensures)
 

@@ -1,0 +1,7 @@
+use Rattle.rules.specs.Refusals.{in_range}
+use borrow.Author.Rules.{rules}
+use Rattle.motor.proofs.is_in_range.Goals as goal
+
+pub returns : goal.returns
+unfolding in_range
+returns c = cc

@@ -1,0 +1,7 @@
+use Rattle.rules.specs.Steps.{without_opposite}
+use borrow.Author.Rules.{rules}
+use Rattle.motor.proofs.output.drop_opposite.Goals as goal
+
+pub returns : goal.returns
+unfolding without_opposite
+returns c = cc

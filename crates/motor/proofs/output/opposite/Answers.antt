@@ -1,0 +1,7 @@
+use Rattle.rules.specs.Record.{opposite_output}
+use borrow.Author.Rules.{rules}
+use Rattle.motor.proofs.output.opposite.Goals as goal
+
+pub returns : goal.returns
+unfolding opposite_output
+returns c = cc

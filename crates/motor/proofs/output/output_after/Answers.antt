@@ -1,0 +1,7 @@
+use Rattle.rules.specs.Steps.{output9}
+use borrow.Author.Rules.{rules}
+use Rattle.motor.proofs.output.output_after.Goals as goal
+
+pub returns : goal.returns
+unfolding output9
+returns c = cc

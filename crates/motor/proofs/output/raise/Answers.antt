@@ -1,0 +1,7 @@
+use Rattle.rules.specs.Steps.{raised}
+use borrow.Author.Rules.{rules}
+use Rattle.motor.proofs.output.raise.Goals as goal
+
+pub returns : goal.returns
+unfolding raised
+returns c = cc

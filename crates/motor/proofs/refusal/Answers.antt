@@ -1,0 +1,7 @@
+use Rattle.rules.specs.Refusals.{one_refusal}
+use borrow.Author.Rules.{rules}
+use Rattle.motor.proofs.refusal.Goals as goal
+
+pub returns : goal.returns
+unfolding one_refusal
+returns c = cc

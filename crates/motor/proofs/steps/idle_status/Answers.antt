@@ -1,0 +1,7 @@
+use Rattle.rules.specs.Resting.{idle_status}
+use borrow.Author.Rules.{rules}
+use Rattle.motor.proofs.steps.idle_status.Goals as goal
+
+pub returns : goal.returns
+unfolding idle_status
+returns c = cc

@@ -1,0 +1,7 @@
+use Rattle.rules.specs.Steps.{issue}
+use borrow.Author.Rules.{rules}
+use Rattle.motor.proofs.steps.issue_command.Goals as goal
+
+pub returns : goal.returns
+unfolding issue
+returns c = cc
