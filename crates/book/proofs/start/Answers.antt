@@ -1,0 +1,6 @@
+use borrow.Author.Rules.{rules}
+use Rattle.book.proofs.Theorem.{demand3}
+use Rattle.book.proofs.start.Goals as goal
+
+pub returns : goal.returns
+returns c = (c.fresh.ensures, demand3 c.args.s)
