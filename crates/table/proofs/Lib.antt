@@ -1,4 +1,1 @@
-pub mod Arrays
 pub mod Passes
-pub mod Rows
-pub mod Walk

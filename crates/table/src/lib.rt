@@ -118,6 +118,7 @@ pub struct ScannedTable {
 }
 
 // The first `count` records and words of two arrays lent as a table.
+#[tactic(auto, unfolding(rules::specs::Refusals::most_motors))]
 fn scan_part(
     mut records: [Motor; MOST_MOTORS],
     count: usize,
