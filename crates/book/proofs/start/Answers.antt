@@ -1,4 +1,3 @@
-use borrow.Author.Rules.{rules}
 use Rattle.book.proofs.Theorem.{demand3}
 use Rattle.book.proofs.start.Goals as goal
 

@@ -1,5 +1,4 @@
 use Rattle.rules.specs.Refusals.{in_range}
-use borrow.Author.Rules.{rules}
 use Rattle.motor.proofs.is_in_range.Goals as goal
 
 pub returns : goal.returns

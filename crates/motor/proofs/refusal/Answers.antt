@@ -1,5 +1,4 @@
 use Rattle.rules.specs.Refusals.{one_refusal}
-use borrow.Author.Rules.{rules}
 use Rattle.motor.proofs.refusal.Goals as goal
 
 pub returns : goal.returns

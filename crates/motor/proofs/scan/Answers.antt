@@ -3,7 +3,6 @@ use Rattle.words.specs.Word.{if◌then◌else◌}
 use mathlib.Core.Path.{sym, ◌∙◌}
 use borrow.Author.Tests.{eq-eqb, ne_eqb}
 use Rattle.rules.proofs.Range.{one_in_limits, steppable}
-use borrow.Author.Rules.{rules}
 use Rattle.motor.proofs.scan.Goals as goal
 
 pub step-n-requires : goal.step-n-requires

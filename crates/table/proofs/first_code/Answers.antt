@@ -1,5 +1,4 @@
 use Rattle.table.specs.Pass.{first_code}
-use borrow.Author.Rules.{rules}
 use Rattle.table.proofs.first_code.Goals as goal
 
 pub returns : goal.returns

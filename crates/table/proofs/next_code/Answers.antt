@@ -1,5 +1,4 @@
 use Rattle.table.specs.Pass.{next_code}
-use borrow.Author.Rules.{rules}
 use Rattle.table.proofs.next_code.Goals as goal
 
 pub returns : goal.returns

@@ -1,10 +1,7 @@
-use borrow.Author.Rules.{rules}
 use native.Mathlib.Omega.{arith}
-use Prim.Native.Nat.{◌-◌, ◌≤◌}
 use mathlib.Core.Path.{◌≡◌, sym, ◌∙◌}
-use lib.ListN.{length, take, get_or}
 use Rattle.rules.specs.Refusals.{most_motors}
-use Rattle.table.proofs.Passes.{code_at, part_start, part_turn, part_end, part_too_many}
+use Rattle.table.proofs.Passes.{part_start, part_turn, part_end, part_too_many}
 use Rattle.table.proofs.refusal_array.Goals as goal
 
 pub returns-then-count-gt-MOST_MOTORS : goal.returns-then-count-gt-MOST_MOTORS

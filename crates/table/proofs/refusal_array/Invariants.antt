@@ -1,10 +1,7 @@
-use borrow.Author.Rules.{rules}
-use native.Mathlib.Omega.{arith}
 use Prim.Native.Nat.{◌-◌, ◌≤◌}
-use mathlib.Core.Path.{◌≡◌, sym, ◌∙◌}
-use lib.ListN.{length, take}
-use Rattle.rules.specs.Refusals.{most_motors}
-use Rattle.table.proofs.Passes.{code_at, part_start, part_turn, part_end, part_too_many}
+use mathlib.Core.Path.{◌≡◌}
+use lib.ListN.{take}
+use Rattle.table.proofs.Passes.{code_at}
 use Rattle.table.proofs.refusal_array.Given as goal
 
 abbrev pub invariant-loop-i : goal.invariant-loop-i

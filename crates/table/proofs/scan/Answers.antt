@@ -2,7 +2,7 @@ use Rattle.std.proofs.Common.{◌≡◌, ◌∙◌, ℕ, List, ◌<◌, ◌≤�
 use Rattle.rules.specs.declared.Motor.{Motor}
 use Rattle.rules.specs.Refusals.{table_refusal}
 use Rattle.table.specs.Pass.{to_test, to_step}
-use Rattle.table.proofs.Passes.{code_at, code_start, code_turn, code_end, test_in, R, table_at, table_start, table_turn, table_end, table_length, step_in}
+use Rattle.table.proofs.Passes.{code_at, code_start, code_turn, code_end, test_in, table_start, table_turn, table_end, step_in}
 use Rattle.table.proofs.scan.Goals as goal
 
 -- Once every record is tested, a turn of the second loop is at a place of both lists.

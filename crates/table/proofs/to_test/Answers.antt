@@ -1,7 +1,6 @@
 use mathlib.Core.Path.{sym, ◌∙◌}
 use Rattle.words.specs.Word.{if◌then◌else◌}
 use Rattle.table.specs.Pass.{to_test}
-use borrow.Author.Rules.{rules}
 use Rattle.table.proofs.to_test.Goals as goal
 
 pub returns-then-is_misfit : goal.returns-then-is_misfit

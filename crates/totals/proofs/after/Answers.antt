@@ -4,7 +4,6 @@ use Rattle.words.specs.Word.{if◌then◌else◌}
 use Rattle.words.proofs.Laws.{and_true}
 use Rattle.totals.specs.Running.{counted_if, totals_after}
 use Rattle.totals.proofs.Choices.{worst_choice}
-use borrow.Author.Rules.{rules}
 use Rattle.totals.proofs.after.Goals as goal
 
 pub returns-then-v-issued : goal.returns-then-v-issued

@@ -1,6 +1,5 @@
 use mathlib.Core.Path.{◌∙◌}
 use Rattle.totals.proofs.Choices.{best_choice}
-use borrow.Author.Rules.{rules}
 use Rattle.totals.proofs.best_after.Goals as goal
 
 pub returns : goal.returns

@@ -1,6 +1,5 @@
 use Rattle.words.specs.Word.{if◌then◌else◌}
 use Rattle.totals.specs.Running.{counted_if}
-use borrow.Author.Rules.{rules}
 use Rattle.totals.proofs.count_if.Goals as goal
 
 pub returns-then-counts : goal.returns-then-counts

@@ -2,7 +2,6 @@ use mathlib.Core.Path.{sym, ◌∙◌}
 use borrow.Author.Tests.{eq-eqb, ne_eqb}
 use Rattle.words.specs.Word.{if◌then◌else◌}
 use Rattle.totals.specs.Running.{on_after}
-use borrow.Author.Rules.{rules}
 use Rattle.totals.proofs.on_after.Goals as goal
 
 pub returns-then-position_read-eq2 : goal.returns-then-position_read-eq2

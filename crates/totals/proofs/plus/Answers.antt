@@ -1,6 +1,5 @@
 use native.Mathlib.Omega.{arith}
 use Rattle.totals.specs.Running.{capped}
-use borrow.Author.Rules.{rules}
 use Rattle.totals.proofs.plus.Goals as goal
 
 pub returns-then-a-b : goal.returns-then-a-b

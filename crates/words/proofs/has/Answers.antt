@@ -1,5 +1,4 @@
 use Rattle.words.specs.Word.{is_set}
-use borrow.Author.Rules.{rules}
 use Rattle.words.proofs.has.Goals as goal
 
 pub returns : goal.returns

@@ -1,7 +1,6 @@
 use Rattle.words.specs.Word.{with_bit, if◌then◌else◌}
 use Rattle.words.proofs.Laws.{one_shl, or_bit}
 use borrow.Author.Tests.{le-ltb}
-use borrow.Author.Rules.{rules}
 use Rattle.words.proofs.with_bit.Goals as goal
 
 pub returns-then-k-lt32 : goal.returns-then-k-lt32

@@ -1,5 +1,4 @@
 use Rattle.rules.specs.Steps.{without_opposite}
-use borrow.Author.Rules.{rules}
 use Rattle.motor.proofs.output.drop_opposite.Goals as goal
 
 pub returns : goal.returns

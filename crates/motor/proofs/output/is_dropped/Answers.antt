@@ -1,6 +1,5 @@
 use Rattle.rules.specs.Steps.{drops}
 use Rattle.rules.specs.Record.{ops₁}
-use borrow.Author.Rules.{rules}
 use Rattle.motor.proofs.output.is_dropped.Goals as goal
 
 pub returns : goal.returns

@@ -1,6 +1,5 @@
 use Rattle.rules.specs.Steps.{raises}
 use Rattle.rules.specs.Record.{ops₁}
-use borrow.Author.Rules.{rules}
 use Rattle.motor.proofs.output.is_raising.Goals as goal
 
 pub returns : goal.returns

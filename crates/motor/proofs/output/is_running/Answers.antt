@@ -1,6 +1,5 @@
 use Rattle.rules.specs.Steps.{running, outputs_are_pulses}
 use Rattle.rules.specs.Record.{ops₁}
-use borrow.Author.Rules.{rules}
 use Rattle.motor.proofs.output.is_running.Goals as goal
 
 pub returns : goal.returns

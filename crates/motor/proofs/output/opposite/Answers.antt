@@ -1,5 +1,4 @@
 use Rattle.rules.specs.Record.{opposite_output}
-use borrow.Author.Rules.{rules}
 use Rattle.motor.proofs.output.opposite.Goals as goal
 
 pub returns : goal.returns

@@ -1,5 +1,4 @@
 use Rattle.rules.specs.Steps.{output9}
-use borrow.Author.Rules.{rules}
 use Rattle.motor.proofs.output.output_after.Goals as goal
 
 pub returns : goal.returns

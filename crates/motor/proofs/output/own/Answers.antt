@@ -1,5 +1,4 @@
 use Rattle.rules.specs.Record.{own_output}
-use borrow.Author.Rules.{rules}
 use Rattle.motor.proofs.output.own.Goals as goal
 
 pub returns : goal.returns

@@ -1,5 +1,4 @@
 use Rattle.rules.specs.Steps.{raised}
-use borrow.Author.Rules.{rules}
 use Rattle.motor.proofs.output.raise.Goals as goal
 
 pub returns : goal.returns

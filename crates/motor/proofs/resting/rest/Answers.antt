@@ -1,5 +1,4 @@
 use Rattle.rules.specs.Resting.{rested_status}
-use borrow.Author.Rules.{rules}
 use Rattle.motor.proofs.resting.rest.Goals as goal
 
 pub returns : goal.returns

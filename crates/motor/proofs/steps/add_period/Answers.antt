@@ -1,6 +1,5 @@
 use Rattle.rules.specs.Steps.{step3}
 use Rattle.rules.specs.Record.{idle}
-use borrow.Author.Rules.{rules}
 use Rattle.motor.proofs.steps.add_period.Goals as goal
 
 pub returns : goal.returns

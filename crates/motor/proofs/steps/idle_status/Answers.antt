@@ -1,5 +1,4 @@
 use Rattle.rules.specs.Resting.{idle_status}
-use borrow.Author.Rules.{rules}
 use Rattle.motor.proofs.steps.idle_status.Goals as goal
 
 pub returns : goal.returns

@@ -1,7 +1,6 @@
 use Rattle.rules.specs.Steps.{step9}
 use Rattle.words.specs.Word.{if◌then◌else◌}
 use borrow.Author.Tests.{eq-eqb, ne_eqb}
-use borrow.Author.Rules.{rules}
 use Rattle.motor.proofs.steps.issue_any.Goals as goal
 
 pub returns-then-c-eq0 : goal.returns-then-c-eq0

@@ -1,5 +1,4 @@
 use Rattle.rules.specs.Steps.{issue}
-use borrow.Author.Rules.{rules}
 use Rattle.motor.proofs.steps.issue_command.Goals as goal
 
 pub returns : goal.returns

@@ -1,5 +1,4 @@
 use Rattle.rules.specs.Steps.{steps6to10}
-use borrow.Author.Rules.{rules}
 use Rattle.motor.proofs.steps.last_steps.Goals as goal
 
 pub returns : goal.returns

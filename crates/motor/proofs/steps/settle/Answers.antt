@@ -1,5 +1,4 @@
 use Rattle.rules.specs.Steps.{step4}
-use borrow.Author.Rules.{rules}
 use Rattle.motor.proofs.steps.settle.Goals as goal
 
 pub returns : goal.returns

@@ -1,6 +1,5 @@
 use Rattle.rules.specs.Steps.{status7}
 use Rattle.rules.specs.Record.{with_flags}
-use borrow.Author.Rules.{rules}
 use Rattle.status.proofs.choice.acknowledge.Goals as goal
 
 pub returns : goal.returns

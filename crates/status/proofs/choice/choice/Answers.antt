@@ -1,11 +1,8 @@
-use borrow.Author.Rules.{rules}
 use native.Mathlib.Omega.{arith}
-use Prim.Native.Nat.{◌+◌, ◌-◌, ◌≤◌}
+use Prim.Native.Nat.{◌+◌, ◌-◌}
 use mathlib.Core.Path.{◌≡◌, refl, sym, ◌∙◌}
-use lib.ListN.{drop}
 use Rattle.words.specs.Word.{if◌then◌else◌}
-use Rattle.rules.specs.Record.{commands}
-use Rattle.rules.specs.Steps.{candidate, first_of, chosen}
+use Rattle.rules.specs.Steps.{chosen}
 use Rattle.status.proofs.Tables.{first_from, first_none}
 use Rattle.status.proofs.choice.choice.Goals as goal
 

@@ -1,12 +1,8 @@
-use borrow.Author.Rules.{rules}
-use native.Mathlib.Omega.{arith}
-use Prim.Native.Nat.{◌+◌, ◌-◌, ◌≤◌}
-use mathlib.Core.Path.{◌≡◌, refl, sym, ◌∙◌}
+use Prim.Native.Nat.{◌-◌, ◌≤◌}
+use mathlib.Core.Path.{◌≡◌}
 use lib.ListN.{drop}
-use Rattle.words.specs.Word.{if◌then◌else◌}
 use Rattle.rules.specs.Record.{commands}
 use Rattle.rules.specs.Steps.{candidate, first_of, chosen}
-use Rattle.status.proofs.Tables.{first_from, first_none}
 use Rattle.status.proofs.choice.choice.Given as goal
 
 abbrev pub invariant-loop-c : goal.invariant-loop-c

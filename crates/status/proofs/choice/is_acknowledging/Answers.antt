@@ -1,5 +1,4 @@
 use Rattle.rules.specs.Steps.{acknowledges}
-use borrow.Author.Rules.{rules}
 use Rattle.status.proofs.choice.is_acknowledging.Goals as goal
 
 pub returns : goal.returns

@@ -1,6 +1,5 @@
 use Rattle.rules.specs.Steps.{admitted}
 use Rattle.rules.specs.Record.{flag}
-use borrow.Author.Rules.{rules}
 use Rattle.status.proofs.choice.is_admitted.Goals as goal
 
 pub returns : goal.returns

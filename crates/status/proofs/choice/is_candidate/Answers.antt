@@ -1,6 +1,5 @@
 use mathlib.Core.Path.{refl, sym, ◌∙◌}
 use Rattle.rules.specs.Steps.{candidate}
-use borrow.Author.Rules.{rules}
 use Rattle.status.proofs.choice.is_candidate.Goals as goal
 
 pub returns-then-is_risen : goal.returns-then-is_risen

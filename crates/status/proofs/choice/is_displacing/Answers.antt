@@ -1,5 +1,4 @@
 use Rattle.rules.specs.Steps.{displaces}
-use borrow.Author.Rules.{rules}
 use Rattle.status.proofs.choice.is_displacing.Goals as goal
 
 pub returns : goal.returns

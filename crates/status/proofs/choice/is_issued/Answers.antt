@@ -2,7 +2,6 @@ use Rattle.rules.specs.Steps.{issues}
 use Rattle.rules.specs.Record.{idle}
 use Rattle.words.specs.Word.{if◌then◌else◌}
 use borrow.Author.Tests.{eq-eqb, ne_eqb}
-use borrow.Author.Rules.{rules}
 use Rattle.status.proofs.choice.is_issued.Goals as goal
 
 pub returns-then-v-eq0 : goal.returns-then-v-eq0

@@ -1,6 +1,5 @@
 use Rattle.rules.specs.Steps.{acknowledges_off}
 use Rattle.rules.specs.Record.{local_mode, ops₁, flag}
-use borrow.Author.Rules.{rules}
 use Rattle.status.proofs.choice.is_off_acknowledged.Goals as goal
 
 pub returns : goal.returns

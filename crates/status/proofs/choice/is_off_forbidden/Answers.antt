@@ -1,6 +1,5 @@
 use Rattle.rules.specs.Steps.{off_forbidden}
 use Rattle.rules.specs.Record.{ops₁, forbid_off}
-use borrow.Author.Rules.{rules}
 use Rattle.status.proofs.choice.is_off_forbidden.Goals as goal
 
 pub returns : goal.returns

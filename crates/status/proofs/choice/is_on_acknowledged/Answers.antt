@@ -1,6 +1,5 @@
 use Rattle.rules.specs.Steps.{acknowledges_on}
 use Rattle.rules.specs.Record.{local_mode, ops₂, flag}
-use borrow.Author.Rules.{rules}
 use Rattle.status.proofs.choice.is_on_acknowledged.Goals as goal
 
 pub returns : goal.returns

@@ -1,6 +1,5 @@
 use Rattle.rules.specs.Steps.{on_forbidden}
 use Rattle.rules.specs.Record.{ops₁, forbid_on}
-use borrow.Author.Rules.{rules}
 use Rattle.status.proofs.choice.is_on_forbidden.Goals as goal
 
 pub returns : goal.returns

@@ -1,5 +1,4 @@
 use Rattle.rules.specs.Steps.{starts}
-use borrow.Author.Rules.{rules}
 use Rattle.status.proofs.choice.is_starting.Goals as goal
 
 pub returns : goal.returns

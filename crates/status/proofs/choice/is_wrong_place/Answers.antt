@@ -1,6 +1,5 @@
 use Rattle.rules.specs.Steps.{wrong_place}
 use Rattle.rules.specs.Record.{local_mode}
-use borrow.Author.Rules.{rules}
 use Rattle.status.proofs.choice.is_wrong_place.Goals as goal
 
 pub returns : goal.returns

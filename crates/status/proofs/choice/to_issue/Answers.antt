@@ -1,5 +1,4 @@
 use Rattle.rules.specs.Steps.{issued}
-use borrow.Author.Rules.{rules}
 use Rattle.status.proofs.choice.to_issue.Goals as goal
 
 pub returns : goal.returns

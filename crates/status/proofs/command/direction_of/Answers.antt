@@ -1,6 +1,5 @@
 use Rattle.status.proofs.Tables.{direction_at, direction_past}
 use mathlib.Core.Path.{sym}
-use borrow.Author.Rules.{rules}
 use Rattle.status.proofs.command.direction_of.Goals as goal
 
 pub returns-then-c-lt8 : goal.returns-then-c-lt8

@@ -1,6 +1,5 @@
 use Rattle.status.proofs.Tables.{input_at, input_past}
 use mathlib.Core.Path.{sym}
-use borrow.Author.Rules.{rules}
 use Rattle.status.proofs.command.input_bit.Goals as goal
 
 pub returns-then-c-lt8 : goal.returns-then-c-lt8

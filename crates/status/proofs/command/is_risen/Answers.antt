@@ -1,5 +1,4 @@
 use Rattle.rules.specs.Record.{command_risen, bit_risen}
-use borrow.Author.Rules.{rules}
 use Rattle.status.proofs.command.is_risen.Goals as goal
 
 pub returns : goal.returns

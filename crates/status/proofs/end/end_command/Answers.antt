@@ -1,6 +1,5 @@
 use Rattle.rules.specs.Steps.{status4}
 use Rattle.rules.specs.Record.{with_flags, with_command}
-use borrow.Author.Rules.{rules}
 use Rattle.status.proofs.end.end_command.Goals as goal
 
 pub returns : goal.returns

@@ -1,5 +1,4 @@
 use Rattle.rules.specs.Steps.{end4}
-use borrow.Author.Rules.{rules}
 use Rattle.status.proofs.end.end_now.Goals as goal
 
 pub returns : goal.returns

@@ -1,5 +1,4 @@
 use Rattle.rules.specs.Steps.{flags4}
-use borrow.Author.Rules.{rules}
 use Rattle.status.proofs.end.flags_now.Goals as goal
 
 pub returns : goal.returns

@@ -1,6 +1,5 @@
 use Rattle.rules.specs.Steps.{confirmed}
 use Rattle.rules.specs.Record.{idle}
-use borrow.Author.Rules.{rules}
 use Rattle.status.proofs.end.is_confirmed.Goals as goal
 
 pub returns : goal.returns

@@ -1,6 +1,5 @@
 use Rattle.rules.specs.Steps.{overdue}
 use Rattle.rules.specs.Record.{idle}
-use borrow.Author.Rules.{rules}
 use Rattle.status.proofs.end.is_overdue.Goals as goal
 
 pub returns : goal.returns

@@ -3,7 +3,6 @@ use Rattle.rules.specs.Record.{overdue_flag}
 use Prim.Native.Nat.{◌+◌}
 use borrow.Author.Tests.{le-ltb}
 use native.Mathlib.Omega.{arith}
-use borrow.Author.Rules.{rules}
 use Rattle.status.proofs.end.with_overdue.Goals as goal
 
 pub returns-then-c-lt26 : goal.returns-then-c-lt26

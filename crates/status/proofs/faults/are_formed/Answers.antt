@@ -1,6 +1,5 @@
 use Rattle.rules.specs.Steps.{faults_formed}
 use Rattle.rules.specs.Record.{ops₁, ops₂, local_mode}
-use borrow.Author.Rules.{rules}
 use Rattle.status.proofs.faults.are_formed.Goals as goal
 
 pub returns : goal.returns

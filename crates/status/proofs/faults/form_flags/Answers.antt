@@ -1,6 +1,5 @@
 use Rattle.rules.specs.Steps.{closed_fault, status5}
 use Rattle.rules.specs.Record.{with_flags}
-use borrow.Author.Rules.{rules}
 use Rattle.status.proofs.faults.form_flags.Goals as goal
 
 pub returns : goal.returns

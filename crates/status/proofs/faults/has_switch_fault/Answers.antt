@@ -1,6 +1,5 @@
 use Rattle.rules.specs.Steps.{switch_fault}
 use Rattle.rules.specs.Record.{idle}
-use borrow.Author.Rules.{rules}
 use Rattle.status.proofs.faults.has_switch_fault.Goals as goal
 
 pub returns : goal.returns

@@ -1,6 +1,5 @@
 use Rattle.rules.specs.Steps.{supply_fault}
 use Rattle.rules.specs.Record.{no_supply, ops₁}
-use borrow.Author.Rules.{rules}
 use Rattle.status.proofs.faults.lacks_supply.Goals as goal
 
 pub returns : goal.returns

@@ -1,5 +1,4 @@
 use Rattle.rules.specs.Steps.{put_flag}
-use borrow.Author.Rules.{rules}
 use Rattle.status.proofs.faults.put_flag.Goals as goal
 
 pub returns : goal.returns

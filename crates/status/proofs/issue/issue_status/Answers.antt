@@ -1,6 +1,5 @@
 use Rattle.rules.specs.Steps.{issue_status}
 use Rattle.rules.specs.Record.{with_flags, with_mode, with_command, idle}
-use borrow.Author.Rules.{rules}
 use Rattle.status.proofs.issue.issue_status.Goals as goal
 
 pub returns : goal.returns

@@ -1,6 +1,5 @@
 use Rattle.rules.specs.Steps.{turns_to_work}
 use Rattle.rules.specs.Record.{ops₁}
-use borrow.Author.Rules.{rules}
 use Rattle.status.proofs.issue.turns_to_work.Goals as goal
 
 pub returns : goal.returns

@@ -1,8 +1,5 @@
-use Rattle.std.proofs.Common.{◌≡◌}
 use lib.Bits.{bit_and}
 use borrow.Author.Rules.{rules}
-use Rattle.words.specs.Word.{without}
-use Rattle.rules.specs.declared.Status.{Status}
 use Rattle.status.proofs.Modes.{Counted, counted}
 use Rattle.status.proofs.mode.asked_mode.Goals as goal
 

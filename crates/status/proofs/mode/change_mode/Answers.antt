@@ -1,6 +1,5 @@
 use Rattle.rules.specs.Steps.{status6}
 use Rattle.rules.specs.Record.{with_mode}
-use borrow.Author.Rules.{rules}
 use Rattle.status.proofs.mode.change_mode.Goals as goal
 
 pub returns : goal.returns

@@ -1,7 +1,6 @@
 use Rattle.rules.specs.Steps.{any_of}
 use Rattle.rules.specs.Record.{commands, command_risen}
 use mathlib.Core.Bool.{or-false}
-use borrow.Author.Rules.{rules}
 use Rattle.status.proofs.mode.is_any_risen.Goals as goal
 
 pub returns : goal.returns

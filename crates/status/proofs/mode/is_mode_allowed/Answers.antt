@@ -1,5 +1,4 @@
 use Rattle.rules.specs.Steps.{mode_allowed}
-use borrow.Author.Rules.{rules}
 use Rattle.status.proofs.mode.is_mode_allowed.Goals as goal
 
 pub returns : goal.returns

@@ -1,6 +1,5 @@
 use Rattle.rules.specs.Steps.{mode_changes}
 use Rattle.rules.specs.Record.{local_mode, idle}
-use borrow.Author.Rules.{rules}
 use Rattle.status.proofs.mode.is_mode_changing.Goals as goal
 
 pub returns : goal.returns

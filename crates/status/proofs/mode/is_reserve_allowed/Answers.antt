@@ -1,6 +1,5 @@
 use Rattle.rules.specs.Steps.{reserve_allowed}
 use Rattle.rules.specs.Record.{flag, ops₁}
-use borrow.Author.Rules.{rules}
 use Rattle.status.proofs.mode.is_reserve_allowed.Goals as goal
 
 pub returns : goal.returns

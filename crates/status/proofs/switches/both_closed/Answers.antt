@@ -1,5 +1,4 @@
 use Rattle.rules.specs.Steps.{both_closed}
-use borrow.Author.Rules.{rules}
 use Rattle.status.proofs.switches.both_closed.Goals as goal
 
 pub returns-in-Off : goal.returns-in-Off

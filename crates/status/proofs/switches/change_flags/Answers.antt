@@ -1,6 +1,5 @@
 use Rattle.rules.specs.Steps.{flags2}
 use Rattle.rules.specs.Record.{idle}
-use borrow.Author.Rules.{rules}
 use Rattle.status.proofs.switches.change_flags.Goals as goal
 
 pub returns : goal.returns

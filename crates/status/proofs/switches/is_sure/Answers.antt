@@ -1,5 +1,4 @@
 use Rattle.rules.specs.Steps.{is_sure}
-use borrow.Author.Rules.{rules}
 use Rattle.status.proofs.switches.is_sure.Goals as goal
 
 pub returns : goal.returns

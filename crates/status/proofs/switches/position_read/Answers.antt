@@ -1,5 +1,4 @@
 use Rattle.rules.specs.Steps.{position_read}
-use borrow.Author.Rules.{rules}
 use Rattle.status.proofs.switches.position_read.Goals as goal
 
 pub returns-in-Off : goal.returns-in-Off

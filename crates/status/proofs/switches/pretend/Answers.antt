@@ -1,6 +1,5 @@
 use Rattle.rules.specs.Steps.{pretended}
 use Rattle.rules.specs.Record.{ops₂}
-use borrow.Author.Rules.{rules}
 use Rattle.status.proofs.switches.pretend.Goals as goal
 
 pub returns : goal.returns

@@ -2,7 +2,6 @@ use Rattle.rules.specs.Steps.{reading}
 use Rattle.rules.specs.Record.{ops₁}
 use Rattle.words.specs.Word.{if◌then◌else◌}
 use mathlib.Core.Path.{sym, ◌∙◌}
-use borrow.Author.Rules.{rules}
 use Rattle.status.proofs.switches.read.Goals as goal
 
 pub returns-then-has : goal.returns-then-has

@@ -2,7 +2,6 @@ use Rattle.rules.specs.Steps.{read_on_switch}
 use Rattle.rules.specs.Record.{on_switch}
 use Rattle.words.specs.Word.{if◌then◌else◌}
 use mathlib.Core.Path.{sym, ◌∙◌}
-use borrow.Author.Rules.{rules}
 use Rattle.status.proofs.switches.read_on_switch.Goals as goal
 
 pub returns-then-has : goal.returns-then-has

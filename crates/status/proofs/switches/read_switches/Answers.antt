@@ -1,6 +1,5 @@
 use Rattle.rules.specs.Steps.{read_switches}
 use Rattle.rules.specs.Record.{on_switch, off_switch}
-use borrow.Author.Rules.{rules}
 use Rattle.status.proofs.switches.read_switches.Goals as goal
 
 pub returns : goal.returns

@@ -1,6 +1,5 @@
 use Rattle.rules.specs.Steps.{status2}
 use Rattle.rules.specs.Record.{with_flags, with_positions}
-use borrow.Author.Rules.{rules}
 use Rattle.status.proofs.switches.switches.Goals as goal
 
 pub returns : goal.returns
