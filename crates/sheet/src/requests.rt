@@ -37,6 +37,7 @@ fn first_word(rest: &[u8]) -> Number
 }
 
 // A motor line's request, by its numbers.
+#[tactic(auto, unfolding(crate::specs::Grammar::motor_from, crate::specs::Grammar::with_value))]
 fn motor(a: Number, b: Number, c: Number, d: Number, e: Number) -> Request
     ensures { result ≡ motor_from a b c d e }
 {
@@ -150,6 +151,7 @@ pub fn request_at(file: &[u8], at: usize) -> Next
 }
 
 // The paper's number for a refused line, and 0 for any other.
+#[tactic(auto, unfolding(crate::specs::Grammar::request_refusal))]
 pub fn refusal(request: Request) -> u32
     ensures { result ≡ request_refusal request }
 {

@@ -1,12 +1,9 @@
-use Prim.Native.Nat.{suc, ◌+◌, ◌-◌, ◌≤◌}
-use mathlib.Core.Logic.{⊎_elim}
-use mathlib.Core.Path.{◌≡◌}
 use native.Mathlib.Omega.{arith}
 use native.Mathlib.Numerals.{add-one}
-use lib.ListN.{length, drop}
-use Rattle.sheet.specs.Split.{comma, split, field_count}
+use Rattle.sheet.specs.Split.{comma, field_count}
 use Rattle.sheet.proofs.SplitLaws.{parts_hit, parts_miss, parts_past}
 use Rattle.sheet.proofs.fields.count_fields.Goals as goal
+use Rattle.sheet.proofs.fields.count_fields.Goals.{then-line-i-eq-COMMA, else-line-i-eq-COMMA}
 
 pub loop-i-preserved : goal.loop-i-preserved
 loop-i-preserved c =
@@ -14,8 +11,10 @@ loop-i-preserved c =
     let i = c.loop-i.i in
     let t = c.loop-i-test.true in
     rw (add-one i)
-    (⊎_elim (λ w. omega (arith, parts_hit comma s i t w.0.taken)) (λ w. omega (arith, parts_miss comma s i t w.0.left))
-    c.if-line-i-eq-COMMA.branch)
+    (elim c.if-line-i-eq-COMMA.branch [
+      | then-line-i-eq-COMMA w ↦ omega (arith, parts_hit comma s i t w.if-line-i-eq-COMMA.true)
+      | else-line-i-eq-COMMA w ↦ omega (arith, parts_miss comma s i t w.if-line-i-eq-COMMA.false)
+    ])
 
 pub returns : goal.returns
 unfolding field_count

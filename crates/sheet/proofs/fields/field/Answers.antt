@@ -1,7 +1,6 @@
 use Prim.Native.Nat.{suc, ◌-◌}
 use mathlib.Core.Path.{◌≡◌, ◌∙◌, sym, ap}
 use native.Mathlib.Omega.{arith}
-use borrow.Author.Rules.{rules}
 use Rattle.sheet.specs.Split.{field_of}
 use Rattle.sheet.proofs.SplitLaws.{empty_field}
 use Rattle.sheet.proofs.fields.field.Goals as goal

@@ -1,9 +1,5 @@
-use Prim.Native.Nat.{suc, ◌-◌}
-use mathlib.Core.Path.{◌≡◌, ◌∙◌, sym, ap}
-use native.Mathlib.Omega.{arith}
-use borrow.Author.Rules.{rules}
+use mathlib.Core.Path.{◌≡◌}
 use Rattle.sheet.specs.Split.{field_of}
-use Rattle.sheet.proofs.SplitLaws.{empty_field}
 use Rattle.sheet.proofs.fields.field.Given as goal
 
 -- the field is field `left` of what is left

@@ -1,5 +1,4 @@
 use native.Mathlib.Nat.{zero-add}
-use borrow.Author.Rules.{rules}
 use Rattle.sheet.proofs.SplitLaws.{between_first, first_field}
 use Rattle.sheet.proofs.fields.first.Goals as goal
 

@@ -1,5 +1,4 @@
 use mathlib.Core.Path.{sym}
-use borrow.Author.Rules.{rules}
 use Rattle.sheet.proofs.LineLaws.{found_by, nothing_by}
 use Rattle.sheet.proofs.lines.find_lf.Goals as goal
 

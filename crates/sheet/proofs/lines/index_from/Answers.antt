@@ -1,9 +1,5 @@
-use Prim.Native.Nat.{◌+◌, ◌-◌}
-use mathlib.Core.Path.{◌≡◌}
 use native.Mathlib.Omega.{arith}
 use native.Mathlib.Numerals.{add-one}
-use lib.ListN.{length, drop}
-use Rattle.sheet.specs.Split.{index_of}
 use Rattle.sheet.proofs.SplitLaws.{index_hit, index_miss, index_past}
 use Rattle.sheet.proofs.lines.index_from.Goals as goal
 

@@ -1,16 +1,7 @@
-use mathlib.Core.Path.{◌≡◌, ◌∙◌, sym}
+use mathlib.Core.Path.{◌∙◌, sym}
 use native.Mathlib.Omega.{arith}
-use borrow.Author.Rules.{rules}
-use Rattle.sheet.specs.Lines.{found_lf}
-use Rattle.sheet.specs.declared.Found.TheVariants.{At}
 use Rattle.sheet.proofs.LineLaws.{found_place, line_end, line_open, line_whole, line_faulty}
 use Rattle.sheet.proofs.lines.next_line.Goals as goal
-
--- the LF that was found
-found : (c : tie.After-known-told)
-    → found_lf c.before.before.before.before.before.before.args.file.now c.before.before.before.before.before.before.args.at
-    ≡ At c.before.end.given.0.0
-found c = sym c.before.before.before.find-lf.ensures ∙ c.before.end.given.1
 
 pub returns-then-file-at : goal.returns-then-file-at
 returns-then-file-at c = let a = c.args in sym (line_end a.file.now a.at c.if-file-at.true)
@@ -18,19 +9,19 @@ returns-then-file-at c = let a = c.args in sym (line_end a.file.now a.at c.if-fi
 pub returns-in_default : goal.returns-in_default
 returns-in_default c =
     let a = c.args in
-    sym (line_open a.file.now a.at c.if-file-at.false (sym c.find_lf.ensures ∙ c.enum_told-1.given.1))
+    sym (line_open a.file.now a.at c.if-file-at.false (sym c.find_lf.ensures ∙ c.in_default.is))
 
 pub overflow_sub-end : goal.overflow_sub-end
 overflow_sub-end c =
     let a = c.args in
-    omega (arith, found_place a.file.now a.at c.end-1.given.0.0 (found c))
+    omega (arith, found_place a.file.now a.at c.in-At.end (sym c.find_lf.ensures ∙ c.in-At.is))
 
 pub returns-then-is_well_sized : goal.returns-then-is_well_sized
 returns-then-is_well_sized c =
     let a = c.args in
-    sym (line_whole a.file.now a.at _ (found c·BEFORE2) (sym c.is_well_sized.ensures ∙ c.if-is_well_sized.true))
+    sym (line_whole a.file.now a.at _ (sym c.find_lf.ensures ∙ c.in-At.is) (sym c.is_well_sized.ensures ∙ c.if-is_well_sized.true))
 
 pub returns-else-is_well_sized : goal.returns-else-is_well_sized
 returns-else-is_well_sized c =
     let a = c.args in
-    sym (line_faulty a.file.now a.at _ (found c·BEFORE2) (sym c.is_well_sized.ensures ∙ c.if-is_well_sized.false))
+    sym (line_faulty a.file.now a.at _ (sym c.find_lf.ensures ∙ c.in-At.is) (sym c.is_well_sized.ensures ∙ c.if-is_well_sized.false))

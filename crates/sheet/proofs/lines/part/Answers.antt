@@ -1,4 +1,3 @@
-use borrow.Author.Rules.{rules}
 use Rattle.sheet.proofs.SplitLaws.{between_cut}
 use Rattle.sheet.proofs.lines.part.Goals as goal
 

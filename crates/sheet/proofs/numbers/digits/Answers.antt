@@ -1,10 +1,8 @@
-use borrow.Author.Rules.{rules}
-use Prim.Native.Nat.{suc, ◌+◌, ◌-◌, ◌*◌, ◌≤◌}
-use mathlib.Core.Path.{◌≡◌, sym, ◌∙◌}
+use Prim.Native.Nat.{suc, ◌+◌, ◌-◌, ◌*◌}
+use mathlib.Core.Path.{sym, ◌∙◌}
 use native.Mathlib.Omega.{arith}
 use native.Mathlib.Numerals.{add-one}
-use lib.ListN.{length, drop, get_or}
-use Rattle.sheet.specs.Number.{all_digits, value_from, largest}
+use lib.ListN.{drop, get_or}
 use Rattle.sheet.proofs.NumberLaws.{digits_low, digits_high, digits_step, digits_past, value_step, value_past, value_grows, no_digits, too_large, in_range_lem}
 use Rattle.sheet.proofs.numbers.digits.Goals as goal
 

@@ -1,5 +1,4 @@
 use mathlib.Core.Path.{◌∙◌, sym}
-use borrow.Author.Rules.{rules}
 use Rattle.sheet.specs.Number.{leading_zero}
 use Rattle.sheet.proofs.NumberLaws.{empty_number, zero_number, plain_number}
 use Rattle.sheet.proofs.numbers.read_number.Goals as goal

@@ -1,6 +1,5 @@
 use mathlib.Core.Path.{◌∙◌, sym}
 use native.Mathlib.Omega.{arith}
-use borrow.Author.Rules.{rules}
 use Rattle.sheet.specs.Places.{begins_with}
 use Rattle.sheet.proofs.PlaceLaws.{byte_at}
 use Rattle.sheet.proofs.quick.begins_with.Goals as goal

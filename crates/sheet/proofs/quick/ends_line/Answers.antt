@@ -1,4 +1,3 @@
-use borrow.Author.Rules.{rules}
 use Rattle.sheet.specs.Places.{ends_line}
 use Rattle.sheet.proofs.quick.ends_line.Goals as goal
 

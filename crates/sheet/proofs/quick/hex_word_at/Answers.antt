@@ -1,8 +1,5 @@
-use mathlib.Core.Path.{◌≡◌, ◌∙◌, sym, ap}
-use mathlib.Core.Bool.{true}
+use mathlib.Core.Path.{◌∙◌, sym, ap}
 use native.Mathlib.Omega.{arith}
-use lib.ListN.{drop}
-use borrow.Author.Rules.{rules}
 use Rattle.sheet.specs.WordField.{has0x}
 use Rattle.sheet.specs.Places.{Read}
 use Rattle.sheet.proofs.SplitLaws.{between_last}

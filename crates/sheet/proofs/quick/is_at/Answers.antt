@@ -1,4 +1,3 @@
-use borrow.Author.Rules.{rules}
 use borrow.Author.Tests.{lt-ltb, le-ltb}
 use Rattle.sheet.specs.Places.{is_at}
 use Rattle.sheet.proofs.quick.is_at.Goals as goal

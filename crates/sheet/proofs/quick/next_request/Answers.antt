@@ -1,5 +1,4 @@
 use mathlib.Core.Path.{◌∙◌, sym}
-use borrow.Author.Rules.{rules}
 use Rattle.sheet.proofs.quick.next_request.Goals as goal
 
 pub input_at-requires : goal.input_at-requires

@@ -1,5 +1,4 @@
 use mathlib.Core.Path.{◌∙◌, ap}
-use borrow.Author.Rules.{rules}
 use Rattle.sheet.specs.Number.{number_of}
 use Rattle.sheet.specs.Grammar.{number_in}
 use Rattle.sheet.proofs.requests.first_number.Goals as goal

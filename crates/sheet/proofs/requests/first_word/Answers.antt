@@ -1,5 +1,4 @@
 use mathlib.Core.Path.{◌∙◌, ap}
-use borrow.Author.Rules.{rules}
 use Rattle.sheet.specs.WordField.{word_of}
 use Rattle.sheet.specs.Grammar.{word_in}
 use Rattle.sheet.proofs.requests.first_word.Goals as goal

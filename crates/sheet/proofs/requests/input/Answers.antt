@@ -1,4 +1,3 @@
-use borrow.Author.Rules.{rules}
 use Rattle.sheet.specs.Grammar.{input_from, with_value}
 use Rattle.sheet.proofs.requests.input.Goals as goal
 

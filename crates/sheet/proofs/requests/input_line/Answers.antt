@@ -1,5 +1,4 @@
 use mathlib.Core.Path.{◌∙◌, ap}
-use borrow.Author.Rules.{rules}
 use Rattle.sheet.specs.Number.{number_of}
 use Rattle.sheet.specs.WordField.{word_of}
 use Rattle.sheet.specs.Grammar.{input_of, number_in, word_in}

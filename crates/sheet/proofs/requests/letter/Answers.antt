@@ -1,4 +1,3 @@
-use borrow.Author.Rules.{rules}
 use borrow.Author.Tests.{eq-eqb, ne_eqb}
 use Rattle.words.specs.Word.{if◌then◌else◌}
 use Rattle.sheet.specs.Grammar.{letter_of}

@@ -1,6 +1,5 @@
 use mathlib.Core.Path.{◌∙◌, sym}
 use native.Mathlib.Omega.{arith}
-use borrow.Author.Rules.{rules}
 use Rattle.sheet.specs.Grammar.{taken_at, next_at}
 use Rattle.sheet.proofs.LineLaws.{until_whole}
 use Rattle.sheet.proofs.requests.request_at.Goals as goal
@@ -8,7 +7,7 @@ use Rattle.sheet.proofs.requests.request_at.Goals as goal
 pub overflow_add-result : goal.overflow_add-result
 overflow_add-result c =
     let a = c.args in
-    omega (arith, (until_whole a.file.now a.at c.end-1.given.0.0 (sym c.next_line.ensures ∙ c.end-1.given.1)).ends)
+    omega (arith, (until_whole a.file.now a.at c.in-Until.end (sym c.next_line.ensures ∙ c.in-Until.is)).ends)
 
 pub returns-in-Until : goal.returns-in-Until
 unfolding next_at taken_at
@@ -16,13 +15,13 @@ returns-in-Until c =
     rw (
       c.parse.ensures,
       c.part.ensures,
-      sym c.next_line.ensures ∙ c.end-1.given.1,
+      sym c.next_line.ensures ∙ c.in-Until.is,
     )
 
 pub returns-in-Refused : goal.returns-in-Refused
 unfolding next_at taken_at
-returns-in-Refused c = rw (sym c.next_line.ensures ∙ c.enum_told-1.given.1)
+returns-in-Refused c = rw (sym c.next_line.ensures ∙ c.in-Refused.is)
 
 pub returns-in-End : goal.returns-in-End
 unfolding next_at taken_at
-returns-in-End c = rw (sym c.next_line.ensures ∙ c.enum_told-in-End-1.given.1)
+returns-in-End c = rw (sym c.next_line.ensures ∙ c.in-End.is)

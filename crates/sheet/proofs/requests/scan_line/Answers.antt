@@ -1,5 +1,4 @@
 use mathlib.Core.Path.{◌∙◌, ap}
-use borrow.Author.Rules.{rules}
 use Rattle.sheet.specs.Number.{number_of}
 use Rattle.sheet.specs.Grammar.{scan_of, number_in}
 use Rattle.sheet.proofs.requests.scan_line.Goals as goal

@@ -1,9 +1,6 @@
-use Prim.Native.Nat.{◌+◌, ◌-◌}
-use mathlib.Core.Path.{◌≡◌, refl, sym, ◌∙◌}
+use mathlib.Core.Path.{refl, sym, ◌∙◌}
 use native.Mathlib.Omega.{arith}
-use lib.ListN.{drop}
-use borrow.Author.Rules.{rules}
-use Rattle.sheet.specs.Split.{LF, index_of}
+use Rattle.sheet.specs.Split.{LF}
 use Rattle.sheet.proofs.WordLaws.{index_skip}
 use Rattle.sheet.proofs.search.lf_from.Goals as goal
 

@@ -1,10 +1,7 @@
 use Prim.Native.Nat.{◌+◌, ◌-◌}
-use mathlib.Core.Path.{◌≡◌, refl, sym, ◌∙◌}
-use native.Mathlib.Omega.{arith}
+use mathlib.Core.Path.{◌≡◌}
 use lib.ListN.{drop}
-use borrow.Author.Rules.{rules}
 use Rattle.sheet.specs.Split.{LF, index_of}
-use Rattle.sheet.proofs.WordLaws.{index_skip}
 use Rattle.sheet.proofs.search.lf_from.Given as goal
 
 -- no LF stands between `at` and i

@@ -1,4 +1,3 @@
-use borrow.Author.Rules.{rules}
 use Rattle.sheet.proofs.WordLaws.{eight_at}
 use Rattle.sheet.proofs.search.word_at.Goals as goal
 

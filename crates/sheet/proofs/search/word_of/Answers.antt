@@ -1,7 +1,6 @@
 use Prim.Native.Nat.{ℕ, ◌+◌, ◌*◌}
 use mathlib.Core.Path.{◌≡◌, refl}
 use native.Mathlib.Omega.{arith}
-use borrow.Author.Rules.{rules}
 use Rattle.sheet.specs.WordBytes.{bytes_of}
 use Rattle.sheet.proofs.WordLaws.{bytes_more}
 use Rattle.sheet.proofs.search.word_of.Goals as goal

@@ -1,5 +1,4 @@
 use mathlib.Core.Path.{sym, refl}
-use borrow.Author.Rules.{rules}
 use Rattle.sheet.specs.WordField.{has0x}
 use Rattle.sheet.proofs.WordFieldLaws.{short_no_0x}
 use Rattle.sheet.proofs.word_fields.has_0x.Goals as goal

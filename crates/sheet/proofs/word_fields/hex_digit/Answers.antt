@@ -1,5 +1,4 @@
 use native.Mathlib.Omega.{arith}
-use borrow.Author.Rules.{rules}
 use Rattle.words.specs.Word.{if◌then◌else◌}
 use Rattle.words.proofs.Laws.{both_le}
 use Rattle.sheet.specs.Number.{is_digit}

@@ -1,4 +1,3 @@
-use borrow.Author.Rules.{rules}
 use borrow.Author.Tests.{lt-ltb, le-ltb}
 use Rattle.words.specs.Word.{if◌then◌else◌}
 use Rattle.sheet.specs.Places.{hex_digit_at}

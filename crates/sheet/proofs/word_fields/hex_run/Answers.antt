@@ -1,11 +1,7 @@
-use Prim.Native.Nat.{◌-◌, ◌<◌}
-use mathlib.Core.Path.{◌≡◌, sym}
+use mathlib.Core.Path.{sym}
 use native.Mathlib.Omega.{arith}
 use native.Mathlib.Numerals.{add-one}
-use lib.ListN.{length}
-use borrow.Author.Rules.{rules}
-use Rattle.sheet.specs.Places.{hex_digit_at}
-use Rattle.sheet.proofs.HexRunLaws.{hex_here, Run, run_none, run_fits, run_more, run_nine, run_without, run_said}
+use Rattle.sheet.proofs.HexRunLaws.{hex_here, run_none, run_fits, run_more, run_nine, run_without, run_said}
 use Rattle.sheet.proofs.word_fields.hex_run.Goals as goal
 
 pub loop-digit-init : goal.loop-digit-init

@@ -1,5 +1,4 @@
 use mathlib.Core.Path.{◌∙◌, sym, ap}
-use borrow.Author.Rules.{rules}
 use Rattle.words.specs.Word.{if◌then◌else◌}
 use Rattle.sheet.specs.WordField.{hex_number, word_of}
 use Rattle.sheet.proofs.SplitLaws.{between_last}
