@@ -1,0 +1,16 @@
+use native.Mathlib.Omega.{arith}
+use Rattle.report.proofs.StoreLaws.{room_tens, room_ones, tens_ones}
+use Rattle.report.proofs.rows.store_three.Goals as goal
+
+pub store_two-last-requires : goal.store_two-last-requires
+store_two-last-requires c =
+    (omega arith, omega arith, room_tens c.args.n (omega arith) (omega arith) c.requires.2)
+
+pub store_digit-requires : goal.store_digit-requires
+store_digit-requires c =
+    (omega arith, room_ones c.args.n (omega arith) (omega arith) c.store_two-last.ensures c.requires.2)
+
+pub returns : goal.returns
+returns c =
+    tens_ones c.args.n (omega arith) (omega arith)
+    c.store_two-last.ensures c.store_digit.ensures
