@@ -279,7 +279,7 @@ values_back motors first samples r l i time h =
 pub signals_width : (before : List Bool) (ss : List Sample) (at n : ℕ) → length before ≡ n → SameWidth n ss → length (signals_at before ss at) ≡ n
 unfolding signals_at
 signals_width before [] at n h l = h
-signals_width before (s ∷ ss) at n h l = signals_width _ ss at n (either (λ (vs : List Bool). length vs ≡ n) (leb s.time at) l.0 h) l.1
+signals_width before (s ∷ ss) at n h l = signals_width (if leb s.time at then s.signals else before) ss at n (either (λ (vs : List Bool). length vs ≡ n) (leb s.time at) l.0 h) l.1
 
 -- what each code has is what each wire has
 wires_have : (f : List ℕ → ℕ) (i number n : ℕ) (vs : List Bool) → length vs ≡ 2 * n → ((j : ℕ) → j < length vs → f (code_of (i + j)) ≡ bit (get_or vs j false))
