@@ -10,7 +10,7 @@ use std::time::Instant;
 const LF: u8 = b'\n';
 
 extern "C" {
-    // Of the library `line_ends`; a slice is handed over as its place and its length.
+    // Of the library `line_ends_c`; a slice is handed over as its place and its length.
     fn first_lf(bytes: *const u8, length: usize, at: usize) -> usize;
     fn first_lf_by_bytes(bytes: *const u8, length: usize, at: usize) -> usize;
 }

@@ -1,5 +1,5 @@
-// The search for LF, for programs in Rust or C to link: they test it and measure it as it is. Where there is no LF, the
-// answer is the slice's length.
+// The search for LF, for programs in Rust or C to link (the crate `line_ends_c` exports it): they test it and measure it as
+// it is. Where there is no LF, the answer is the slice's length.
 #![tactic(auto)]
 
 ghost use Rattle.std.specs.Prelude.{◌≡◌, length};
@@ -9,8 +9,8 @@ ghost use Rattle.line_ends.specs.Place.{place_or};
 use sheet::{Found, find_lf, index_from};
 
 // The first LF at or after a place, as the bench finds it.
-#[unsafe(no_mangle)]
-pub extern "C" fn first_lf(file: &[u8], at: usize) -> usize
+#[tactic(auto, unfolding(crate::specs::Place::place_or))]
+pub fn first_lf(file: &[u8], at: usize) -> usize
     ensures { result ≡ place_or (length file.now) (found_lf file.now at) }
 {
     match find_lf(file, at) {
@@ -20,8 +20,7 @@ pub extern "C" fn first_lf(file: &[u8], at: usize) -> usize
 }
 
 // The same, looked for byte by byte: what the other is measured against.
-#[unsafe(no_mangle)]
-pub extern "C" fn first_lf_by_bytes(file: &[u8], at: usize) -> usize
+pub fn first_lf_by_bytes(file: &[u8], at: usize) -> usize
     ensures { result ≡ place_or (length file.now) (found_lf file.now at) }
 {
     let i = index_from(file, at, b'\n');
