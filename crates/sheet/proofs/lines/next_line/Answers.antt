@@ -9,19 +9,19 @@ returns-then-file-at c = let a = c.args in sym (line_end a.file.now a.at c.if-fi
 pub returns-in_default : goal.returns-in_default
 returns-in_default c =
     let a = c.args in
-    sym (line_open a.file.now a.at c.if-file-at.false (sym c.find_lf.ensures ∙ c.in_default.is))
+    sym (line_open a.file.now a.at c.if-file-at.false (sym c.in_default.ensures))
 
 pub overflow_sub-end : goal.overflow_sub-end
 overflow_sub-end c =
     let a = c.args in
-    omega (arith, found_place a.file.now a.at c.in-At.end (sym c.find_lf.ensures ∙ c.in-At.is))
+    omega (arith, found_place a.file.now a.at c.in-At.end (sym c.in-At.ensures))
 
 pub returns-then-is_well_sized : goal.returns-then-is_well_sized
 returns-then-is_well_sized c =
     let a = c.args in
-    sym (line_whole a.file.now a.at _ (sym c.find_lf.ensures ∙ c.in-At.is) (sym c.is_well_sized.ensures ∙ c.if-is_well_sized.true))
+    sym (line_whole a.file.now a.at _ (sym c.in-At.ensures) (sym c.is_well_sized.ensures ∙ c.if-is_well_sized.true))
 
 pub returns-else-is_well_sized : goal.returns-else-is_well_sized
 returns-else-is_well_sized c =
     let a = c.args in
-    sym (line_faulty a.file.now a.at _ (sym c.find_lf.ensures ∙ c.in-At.is) (sym c.is_well_sized.ensures ∙ c.if-is_well_sized.false))
+    sym (line_faulty a.file.now a.at _ (sym c.in-At.ensures) (sym c.is_well_sized.ensures ∙ c.if-is_well_sized.false))
