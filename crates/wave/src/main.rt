@@ -1,7 +1,8 @@
 // The waveform program: reads a file from standard input, and prints its value change dump.
 #![tactic(auto)]
 
-use libc::{STDIN_FILENO, STDOUT_FILENO};
+use std::io;
+use std::io::{Read, Write};
 
 // One byte more than a file may have, so that a longer one shows.
 const ROOM_IN: usize = 65537;
@@ -9,29 +10,20 @@ const ROOM_IN: usize = 65537;
 // As much as a pipe holds, so that dumps cost few writes.
 const ROOM_OUT: usize = 65536;
 
-// Writes the first n bytes; false where the output is closed.
-fn write_front(out: &[u8], n: usize) -> bool {
-    if out.len() < n {
-        return false;
-    }
-    io::write_all(STDOUT_FILENO, &out[0..n])
-}
-
-// The dump of a file, a buffer at a time.
-fn print(file: &[u8]) {
+// The dump of a file, a buffer at a time, up to the first write that fails.
+fn print<W: Write>(file: &[u8], to: &mut W) -> io::Result<()> {
     let mut out = [0u8; ROOM_OUT];
     let mut s = dump::begin(file);
-    let mut going = true;
-    while going & (s.at <= file.len()) {
+    while s.at <= file.len() {
         let filled = dump::fill(file, s, &mut out);
-        let n = filled.to;
-        going = write_front(&out, n);
+        to.write_all(&out[..filled.to])?;
         s = filled.recording;
     }
+    Ok(())
 }
 
-fn main() {
-    let mut file = [0u8; ROOM_IN];
-    let n = io::read_full(STDIN_FILENO, &mut file);
-    print(&file[0..n]);
+fn main(rt: HostRuntime) -> io::Result<()> {
+    let mut file = Vec::with_capacity(rt.alloc(), ROOM_IN)?;
+    rt.stdin().take(ROOM_IN as u64).read_to_end(&mut file)?;
+    print(&file, &mut rt.stdout())
 }
