@@ -4,8 +4,8 @@
 # ways, right and wrong, and random files. Dumps are also read back.
 set -euo pipefail
 cd "$(dirname "$0")/.."
-bench=$PWD/target/bin/bench
-wave=$PWD/target/bin/wave
+bench=$PWD/crates/bench/out/bench
+wave=$PWD/crates/wave/out/wave
 build=$PWD/target/model
 (cd model && cargo test --quiet --offline --target-dir "$build" && cargo build --quiet --offline --release --target-dir "$build")
 "$build/release/sheets" sheets "$bench" --wave "$wave"

@@ -2,8 +2,8 @@
 # What the two programs do with their surroundings: input in pieces, none, too much of it, and an output that is closed.
 set -euo pipefail
 cd "$(dirname "$0")/.."
-program=$PWD/target/bin/bench
-wave=$PWD/target/bin/wave
+program=$PWD/crates/bench/out/bench
+wave=$PWD/crates/wave/out/wave
 work=$(mktemp -d)
 trap 'rm -rf "$work"' EXIT
 expect() { # name, file with what was printed, file with what should be

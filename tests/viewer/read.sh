@@ -1,9 +1,9 @@
 #!/usr/bin/env bash
 # Reads the dumps of the sheets with GTKWave's converter and back: names, times and values must be those of the dump.
-# Not part of the gate, which needs no viewer. WAVE=PROGRAM takes another program than target/bin/wave.
+# Not part of the gate, which needs no viewer. WAVE=PROGRAM takes another program than crates/wave/out/wave.
 set -euo pipefail
 cd "$(dirname "$0")/../.."
-program=${WAVE:-target/bin/wave}
+program=${WAVE:-crates/wave/out/wave}
 missing() { echo "tests/viewer/read.sh: $*" >&2; exit 2; }
 [ -x "$program" ] || missing "$program is not there: it has to be built first"
 for tool in vcd2fst fst2vcd; do
