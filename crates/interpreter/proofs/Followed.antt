@@ -12,6 +12,7 @@ use lib.ListN.{length, get_or, length-map, length-append, get_or-map, get_or-app
 use lib.Seq.{get_or-append_seam}
 use borrow.Author.Tests.{eqb-true}
 use Rattle.words.specs.Word.{if◌then◌else◌}
+use Rattle.rules.specs.Refusals.{table_after}
 use Rattle.rules.specs.declared.Motor.{Motor}
 use Rattle.rules.specs.Record.{fresh}
 use Rattle.rules.specs.Scans.{Input}
@@ -110,7 +111,9 @@ run_on {hs = hs} (M number ops1 ops2 w u) h a =
 run_on (I number word) h a = record { motors = a.motors; unscanned = a.unscanned; histories = a.histories }
 run_on {t} {hs} {os} (S period) h a =
     record {
-      motors = rw (fresh_entered hs t.words period, a.motors) refl;
+      motors =
+          ap (λ (ms : List Motor). table_after ms t.words period) a.motors
+          ∙ ap (λ (ms : List Motor). table_after (table_run ms os) t.words period) (sym (fresh_entered hs t.words period));
       unscanned = λ e. absurd (omega arith);
       histories = scan_histories t hs os period h a;
     }

@@ -6,13 +6,10 @@ use mathlib.Core.List.{List, [], ◌∷◌}
 use native.Mathlib.Omega.{arith}
 use lib.ListN.{length, take, set, length-set}
 use lib.Seq.{take-set-lt}
-use types.Run.{OneOf, miss}
-use denote.Enum.Declared.{tag_of}
 use Rattle.rules.specs.Refusals.{all_ok, word_ok}
 use Rattle.sheet.specs.declared.Request.{Request}
 use Rattle.sheet.specs.declared.Next.{Next}
 use Rattle.sheet.specs.declared.Next.TheVariants.{Taken, Done}
-use Rattle.sheet.specs.contracts.Request.{the_type}
 use Rattle.sheet.specs.declared.Request.TheVariants.{Input as I, Scan as S}
 use Rattle.sheet.proofs.RequestLaws.{taken}
 use Rattle.interpreter.specs.State.{input_refusal}
@@ -54,9 +51,9 @@ module _ {file words : List ℕ} {held at line : ℕ} where
 pub no_line : {period next : ℕ} → ◌≡◌ {A = Next} Done (Taken (S period) next) → ⊥
 no_line e = let z : ◌≡◌ {A = ℕ} 0 1 = cc in omega arith
 
--- a line of another kind, by its tag
-pub other_kind : {r : Request} {next period next' : ℕ} → OneOf (0 ∷ 1 ∷ 3 ∷ []) (tag_of the_type r) → Taken r next ≡ Taken (S period) next' → ⊥
-other_kind {r} {next} {period} o e = let f : r ≡ S period = cc in miss (0 ∷ 1 ∷ 3 ∷ []) 2 tt (rw f at o)
+-- the request that stands there
+pub same_request : {r r' : Request} {next next' : ℕ} → Taken r next ≡ Taken r' next' → r ≡ r'
+same_request e = cc
 
 -- an S line of this period
 pub same_period : {period next period' next' : ℕ} → Taken (S period) next ≡ Taken (S period') next' → period ≡ period'
@@ -65,9 +62,6 @@ same_period e = cc
 -- and of I lines
 pub no_input_line : {number word next : ℕ} → ◌≡◌ {A = Next} Done (Taken (I number word) next) → ⊥
 no_input_line e = let z : ◌≡◌ {A = ℕ} 0 1 = cc in omega arith
-
-pub other_than_input : {r : Request} {next number word next' : ℕ} → OneOf (0 ∷ 2 ∷ 3 ∷ []) (tag_of the_type r) → Taken r next ≡ Taken (I number word) next' → ⊥
-other_than_input {r} {next} {number} {word} o e = let f : r ≡ I number word = cc in miss (0 ∷ 2 ∷ 3 ∷ []) 1 tt (rw f at o)
 
 pub same_input : {number word next number' word' next' : ℕ} → Taken (I number word) next ≡ Taken (I number' word') next' → (number ≡ number') × (word ≡ word')
 same_input e = (cc, cc)

@@ -1,52 +1,59 @@
-use borrow.Author.Rules.{rules}
 use native.Mathlib.Omega.{arith}
-use Rattle.rules.specs.Refusals.{most_motors}
-use Prim.Native.Nat.{◌<◌}
-use Rattle.sheet.specs.declared.Request.TheVariants.{Motor as M}
-use Rattle.interpreter.specs.State.{refusal_for, view_of}
+use Prim.Native.Nat.{ℕ, ◌<◌, min}
 use mathlib.Core.Path.{◌≡◌, ◌∙◌, sym}
-use lib.ListN.{length, length-map}
+use lib.ListN.{length}
+use Rattle.rules.specs.Refusals.{most_motors}
+use Rattle.rules.specs.declared.Settings.{Settings}
+use Rattle.sheet.specs.declared.Request.TheVariants.{Motor as M}
+use Rattle.interpreter.specs.declared.Bench.{Bench}
+use Rattle.interpreter.specs.State.{motor_refusal, refusal_for, view_of}
 use Rattle.interpreter.proofs.ActLaws.{accepted, refused, motor_room, add_refusal, add_state}
 use Rattle.interpreter.proofs.acts.add.Goals as goal
 
 -- the refusal is the definition's
-code : (c : tie.After-motor-refusal) → c.motor-refusal.result ≡ refusal_for (view_of c.before.before.args.b) (M c.before.before.args.number c.before.before.args.s.ops1 c.before.before.args.s.ops2 c.before.before.args.s.w c.before.before.args.s.u)
-code c =
-    let e = c.before.before in
-    c.motor-refusal.ensures ∙ rw c.before.in_use.ensures (add_refusal e.args.b (motors_is e) (words_is e) e.args.number e.args.s)
+code : (b : Bench) (number : ℕ) (s : Settings) {n r : ℕ} → length b.motors ≡ 32 → length b.words ≡ 32 → n ≡ min b.count most_motors
+    → r ≡ motor_refusal n b.scans number s → r ≡ refusal_for (view_of b) (M number s.ops1 s.ops2 s.w s.u)
+code b number s is js e f = f ∙ rw e (add_refusal b is js number s)
 
-room : (c : tie.Then1) → c.before.before.in_use.result < 32
-room c = motor_room _ _ _ _ (sym c.before.motor-refusal.ensures ∙ c.if1.true)
+room : (n scans number : ℕ) (s : Settings) {r : ℕ} → r ≡ motor_refusal n scans number s → r ≡ 0 → n < 32
+unfolding most_motors
+room n scans number s f z = motor_room n scans number s (sym f ∙ z)
+
+pub offset_bounds-n-at : goal.offset_bounds-n-at
+offset_bounds-n-at c = omega (arith, room _ _ _ _ c.motor_refusal-refusal.ensures c.if-refusal-eq0.true)
+
+pub bounds-n-at : goal.bounds-n-at
+bounds-n-at c = omega (arith, room _ _ _ _ c.motor_refusal-refusal.ensures c.if-refusal-eq0.true)
+
+pub offset_bounds-n-at-then-refusal-eq0 : goal.offset_bounds-n-at-then-refusal-eq0
+offset_bounds-n-at-then-refusal-eq0 c = omega (arith, room _ _ _ _ c.motor_refusal-refusal.ensures c.if-refusal-eq0.true)
+
+pub bounds-n-at-then-refusal-eq0 : goal.bounds-n-at-then-refusal-eq0
+bounds-n-at-then-refusal-eq0 c = omega (arith, room _ _ _ _ c.motor_refusal-refusal.ensures c.if-refusal-eq0.true)
+
+pub offset_bounds-n-at-then-refusal-eq0-2 : goal.offset_bounds-n-at-then-refusal-eq0-2
+offset_bounds-n-at-then-refusal-eq0-2 c = omega (arith, room _ _ _ _ c.motor_refusal-refusal.ensures c.if-refusal-eq0.true)
+
+pub bounds-n-at-then-refusal-eq0-2 : goal.bounds-n-at-then-refusal-eq0-2
+bounds-n-at-then-refusal-eq0-2 c = omega (arith, room _ _ _ _ c.motor_refusal-refusal.ensures c.if-refusal-eq0.true)
+
+pub overflow_add-n : goal.overflow_add-n
+overflow_add-n c = omega (arith, room _ _ _ _ c.motor_refusal-refusal.ensures c.if-refusal-eq0.true)
 
 pub returns-then-refusal-eq0 : goal.returns-then-refusal-eq0
 unfolding most_motors
 returns-then-refusal-eq0 c =
-    let n = c.in_use-at.ensures in (
-      code c·BEFORE3,
-      rw (c.none.ensures.0, c.start-fresh.ensures.0, n)
-          (add_state c.args.b ((simp length-map at c.well-formed.0.1.1.0.1.0.1)) ((simp length-map at c.well-formed.0.1.1.1.0.1.0.1)) ((simp length-map at c.well-formed.0.1.1.1.1.1.1.0.1.0.1)) c.args.s c.args.number (rw n at (room c·BEFORE2)) ∙ sym (accepted _ _ (sym (code c·BEFORE3) ∙ c.if-refusal-eq0.true))),
-    )
+    let is : length c.args.b.motors ≡ 32 = omega arith in
+    let js : length c.args.b.words ≡ 32 = omega arith in
+    let ts : length c.args.b.totals ≡ 32 = omega arith in
+    let n = c.in_use-at.ensures in
+    let e = code c.args.b c.args.number c.args.s is js n c.motor_refusal-refusal.ensures in
+    let h = room _ _ _ _ c.motor_refusal-refusal.ensures c.if-refusal-eq0.true in
+    (e, rw (c.none.ensures.0, c.start-fresh.ensures.0, n) (add_state c.args.b is js ts c.args.s c.args.number (rw n at h) ∙ sym (accepted _ _ (sym e ∙ c.if-refusal-eq0.true))))
 
 pub returns : goal.returns
-returns c = (code c·BEFORE1, sym (refused _ _ (λ q. c.if-refusal-eq0.false (code c·BEFORE1 ∙ q))))
-
-pub offset_bounds-n-at : goal.offset_bounds-n-at
-offset_bounds-n-at c = omega (arith, room c·BEFORE1)
-
-pub bounds-n-at : goal.bounds-n-at
-bounds-n-at c = omega (arith, room c·BEFORE1)
-
-pub offset_bounds-n-at-then-refusal-eq0 : goal.offset_bounds-n-at-then-refusal-eq0
-offset_bounds-n-at-then-refusal-eq0 c = omega (arith, room c·BEFORE2)
-
-pub bounds-n-at-then-refusal-eq0 : goal.bounds-n-at-then-refusal-eq0
-bounds-n-at-then-refusal-eq0 c = omega (arith, room c·BEFORE2)
-
-pub offset_bounds-n-at-then-refusal-eq0-2 : goal.offset_bounds-n-at-then-refusal-eq0-2
-offset_bounds-n-at-then-refusal-eq0-2 c = omega (arith, room c·BEFORE2)
-
-pub bounds-n-at-then-refusal-eq0-2 : goal.bounds-n-at-then-refusal-eq0-2
-bounds-n-at-then-refusal-eq0-2 c = omega (arith, room c·BEFORE2)
-
-pub overflow_add-n : goal.overflow_add-n
-overflow_add-n c = omega (arith, room c·BEFORE2)
+returns c =
+    let is : length c.args.b.motors ≡ 32 = omega arith in
+    let js : length c.args.b.words ≡ 32 = omega arith in
+    let e = code c.args.b c.args.number c.args.s is js c.in_use-at.ensures c.motor_refusal-refusal.ensures in
+    (e, sym (refused _ _ (λ q. c.if-refusal-eq0.false (e ∙ q))))

@@ -9,54 +9,61 @@ use Rattle.totals.proofs.Lists.{none_taken}
 use Rattle.interpreter.proofs.ActLaws.{counted_more}
 use Rattle.interpreter.proofs.acts.all_totals.Goals as goal
 
--- the motor whose turn it is
-below : (c : tie.In-loop invariant-loop decreases-loop) → c.before.loop.i < 32
-below c = omega arith
-
 pub loop-i-preserved : goal.loop-i-preserved
 unfolding most_motors
 loop-i-preserved c =
-    let here = below c·BEFORE7 in
-    (omega arith, counted_more c.args.t2 c.args.t3 c.args.totals c.loop-i.totals c.args.t4 c.args.period c.args.held c.loop-i.i c.requires.1 (omega (arith, (c.well-formed.1.1.1.0.1.0.1))) (omega arith) (omega (arith, here, (c.well-formed.1.0.1.0.1))) (omega (arith, here, (c.well-formed.0.1.0.1))) c.loop-i.invariant.1 (rw c.read.ensures at c.after.ensures))
+    let here : c.loop-i.i < 32 = omega arith in
+    (omega arith, counted_more c.args.motors c.args.after c.args.totals c.loop-i.totals c.args.words c.args.period c.args.held c.loop-i.i c.requires.1 (omega arith) (omega arith) (omega arith) (omega arith) c.loop-i.invariant.1 (rw c.read.ensures at c.after.ensures))
 
 pub returns : goal.returns
 returns c =
     let e = c.args in
     let h : c.loop-i.i ≡ e.held = omega arith in
-    c.loop-i.invariant.1 ∙ ap (λ (k : ℕ). all_totals e.totals e.t2 (take k e.t4) e.period) h
+    c.loop-i.invariant.1 ∙ ap (λ (k : ℕ). all_totals e.totals e.motors (take k e.words) e.period) h
 
 pub loop-i-init : goal.loop-i-init
-loop-i-init c = (omega arith, sym (none_taken c.args.totals c.args.t2 c.args.period))
+loop-i-init c = (omega arith, sym (none_taken c.args.totals c.args.motors c.args.period))
 
 pub offset_bounds-motors-i : goal.offset_bounds-motors-i
-offset_bounds-motors-i c = omega (arith, below c)
+unfolding most_motors
+offset_bounds-motors-i c = omega arith
 
 pub bounds-motors-i : goal.bounds-motors-i
-bounds-motors-i c = omega (arith, below c)
+unfolding most_motors
+bounds-motors-i c = omega arith
 
 pub offset_bounds-after-i : goal.offset_bounds-after-i
-offset_bounds-after-i c = omega (arith, below c·BEFORE2)
+unfolding most_motors
+offset_bounds-after-i c = omega arith
 
 pub bounds-after-i : goal.bounds-after-i
-bounds-after-i c = omega (arith, below c·BEFORE2)
+unfolding most_motors
+bounds-after-i c = omega arith
 
 pub offset_bounds-totals-i : goal.offset_bounds-totals-i
-offset_bounds-totals-i c = omega (arith, below c·BEFORE4)
+unfolding most_motors
+offset_bounds-totals-i c = omega arith
 
 pub bounds-totals-i : goal.bounds-totals-i
-bounds-totals-i c = omega (arith, below c·BEFORE4)
+unfolding most_motors
+bounds-totals-i c = omega arith
 
 pub offset_bounds-words-i : goal.offset_bounds-words-i
-offset_bounds-words-i c = omega (arith, below c·BEFORE5)
+unfolding most_motors
+offset_bounds-words-i c = omega arith
 
 pub bounds-words-i : goal.bounds-words-i
-bounds-words-i c = omega (arith, below c·BEFORE5)
+unfolding most_motors
+bounds-words-i c = omega arith
 
 pub offset_bounds-totals-i-in-loop-i : goal.offset_bounds-totals-i-in-loop-i
-offset_bounds-totals-i-in-loop-i c = omega (arith, below c·BEFORE7)
+unfolding most_motors
+offset_bounds-totals-i-in-loop-i c = omega arith
 
 pub bounds-totals-i-in-loop-i : goal.bounds-totals-i-in-loop-i
-bounds-totals-i-in-loop-i c = omega (arith, below c·BEFORE7)
+unfolding most_motors
+bounds-totals-i-in-loop-i c = omega arith
 
 pub overflow_add-i : goal.overflow_add-i
-overflow_add-i c = omega (arith, below c·BEFORE7)
+unfolding most_motors
+overflow_add-i c = omega arith

@@ -1,43 +1,44 @@
-use borrow.Author.Rules.{rules}
-use mathlib.Core.Path.{◌≡◌, ◌∙◌, sym}
-use Prim.Native.Nat.{◌≤◌, min}
-use lib.ListN.{length, length-map}
-use Rattle.rules.specs.Refusals.{most_motors}
-use Rattle.interpreter.specs.State.{refusal_for, view_of}
 use native.Mathlib.Omega.{arith}
-use Rattle.interpreter.proofs.ActLaws.{accepted, refused, input_there, word_refusal, word_state}
+use Prim.Native.Nat.{ℕ, ◌≤◌, min}
+use mathlib.Core.Path.{◌≡◌, ◌∙◌, sym}
+use lib.ListN.{length}
+use Rattle.rules.specs.Refusals.{most_motors}
 use Rattle.sheet.specs.declared.Request.TheVariants.{Input as I}
+use Rattle.interpreter.specs.declared.Bench.{Bench}
+use Rattle.interpreter.specs.State.{input_refusal, refusal_for, view_of}
+use Rattle.interpreter.proofs.ActLaws.{accepted, refused, input_there, word_refusal, word_state}
 use Rattle.interpreter.proofs.acts.set_word.Goals as goal
 
 -- the refusal is the definition's
-code : (c : tie.After-input-refusal) → c.input-refusal.result ≡ refusal_for (view_of c.before.before.args.b) (I c.before.before.args.number c.before.before.args.word)
-code c =
-    let e = c.before.before in
-    c.input-refusal.ensures ∙ rw c.before.in_use.ensures (word_refusal e.args.b (motors_is e) (words_is e) e.args.number e.args.word)
+code : (b : Bench) (number word : ℕ) {n r : ℕ} → length b.motors ≡ 32 → length b.words ≡ 32 → n ≡ min b.count most_motors
+    → r ≡ input_refusal n number word → r ≡ refusal_for (view_of b) (I number word)
+code b number word is js e f = f ∙ rw e (word_refusal b is js number word)
+
+-- an accepted number is that of a motor
+there : (count number word : ℕ) {n r : ℕ} → n ≡ min count most_motors → r ≡ input_refusal n number word → r ≡ 0
+    → (1 ≤ number) × (number ≤ min count most_motors)
+there count number word e f z = input_there _ number word (rw e at (sym f ∙ z))
 
 pub overflow_sub-at : goal.overflow_sub-at
-overflow_sub-at c = omega (
-  arith,
-  (let h = input_there _ _ _ (sym c.input_refusal-refusal.ensures ∙ c.if-refusal-eq0.true) in
-      (h.0, rw c.in_use.ensures at h.1)),
-)
+overflow_sub-at c = omega (arith, (there c.args.b.count c.args.number c.args.word c.in_use.ensures c.input_refusal-refusal.ensures c.if-refusal-eq0.true).0)
 
 pub bounds-n-at : goal.bounds-n-at
 unfolding most_motors
-bounds-n-at c = omega (
-  arith,
-  (let h = input_there _ _ _ (sym c.input_refusal-refusal.ensures ∙ c.if-refusal-eq0.true) in
-      (h.0, rw c.in_use.ensures at h.1)),
-)
+bounds-n-at c =
+    let h = there c.args.b.count c.args.number c.args.word c.in_use.ensures c.input_refusal-refusal.ensures c.if-refusal-eq0.true in
+    omega (arith, h.0, h.1)
 
 pub returns-then-refusal-eq0 : goal.returns-then-refusal-eq0
-returns-then-refusal-eq0 c = (
-  code c·BEFORE1,
-  word_state c.args.b ((simp length-map at c.well-formed.0.1.1.0.1.0.1)) ((simp length-map at c.well-formed.0.1.1.1.0.1.0.1)) c.args.number c.args.word ((let h = input_there _ _ _ (sym c.input_refusal-refusal.ensures ∙ c.if-refusal-eq0.true) in
-      (h.0, rw c.in_use.ensures at h.1))).0 ((let h = input_there _ _ _ (sym c.input_refusal-refusal.ensures ∙ c.if-refusal-eq0.true) in
-      (h.0, rw c.in_use.ensures at h.1))).1
-      ∙ sym (accepted _ _ (sym (code c·BEFORE1) ∙ c.if-refusal-eq0.true)),
-)
+returns-then-refusal-eq0 c =
+    let is : length c.args.b.motors ≡ 32 = omega arith in
+    let js : length c.args.b.words ≡ 32 = omega arith in
+    let h = there c.args.b.count c.args.number c.args.word c.in_use.ensures c.input_refusal-refusal.ensures c.if-refusal-eq0.true in
+    let e = code c.args.b c.args.number c.args.word is js c.in_use.ensures c.input_refusal-refusal.ensures in
+    (e, word_state c.args.b is js c.args.number c.args.word h.0 h.1 ∙ sym (accepted _ _ (sym e ∙ c.if-refusal-eq0.true)))
 
 pub returns : goal.returns
-returns c = (code c·BEFORE1, sym (refused _ _ (λ q. c.if-refusal-eq0.false (code c·BEFORE1 ∙ q))))
+returns c =
+    let is : length c.args.b.motors ≡ 32 = omega arith in
+    let js : length c.args.b.words ≡ 32 = omega arith in
+    let e = code c.args.b c.args.number c.args.word is js c.in_use.ensures c.input_refusal-refusal.ensures in
+    (e, sym (refused _ _ (λ q. c.if-refusal-eq0.false (e ∙ q))))
