@@ -1,0 +1,59 @@
+use borrow.Author.Rules.{rules}
+use native.Mathlib.Omega.{arith}
+use Prim.Native.Nat.{◌-◌, ◌<◌, ◌≤◌}
+use mathlib.Core.Path.{◌≡◌}
+use lib.ListN.{length, take, length-map}
+use Rattle.rules.specs.Refusals.{most_motors}
+use Rattle.table.proofs.Rows.{blank}
+use Rattle.totals.specs.Running.{no_totals}
+use Rattle.report.specs.Put.{Put}
+use Rattle.report.proofs.PutLaws.{put_length, put_none, then}
+use Rattle.print.specs.Advance.{running_print, at_end}
+use Rattle.interpreter.proofs.ActLaws.{take_used}
+use Rattle.print.proofs.PrintLaws.{totals_more}
+use Rattle.print.proofs.course.put_end.Goals as goal
+
+-- the motor whose turn it is
+below : (c : tie.In-loop invariant-loop decreases-loop) → c.before.loop.i < 32
+below c = omega arith
+
+pub loop-i-init : goal.loop-i-init
+unfolding running_print
+loop-i-init c = (omega arith, put_none)
+
+pub loop-i-preserved : goal.loop-i-preserved
+loop-i-preserved c =
+    let b = c.args.t1 in
+    let here = below c·BEFORE7 in
+    (omega arith, rw (totals_more c.loop-i.i b.motors b.totals blank no_totals (omega (arith, here, (simp length-map at c.well-formed.0.1.1.0.1.0.1))) (omega (arith, here, (simp length-map at c.well-formed.0.1.1.1.1.1.1.0.1.0.1)))) (then c.loop-i.invariant.1 (rw c.totals_row.ensures at c.put_totals-to.ensures)))
+
+pub returns : goal.returns
+unfolding at_end
+returns c =
+    let b = c.args.t1 in
+    let h : c.loop-i.i ≡ c.in_use-held.result = omega arith in
+    rw (take_used b.count b.motors ((simp length-map at c.well-formed.0.1.1.0.1.0.1)), take_used b.count b.totals ((simp length-map at c.well-formed.0.1.1.1.1.1.1.0.1.0.1)), ← c.in_use-held.ensures, ← h) c.loop-i.invariant.1
+
+pub offset_bounds-b-i : goal.offset_bounds-b-i
+offset_bounds-b-i c = omega (arith, below c)
+
+pub bounds-b-i : goal.bounds-b-i
+bounds-b-i c = omega (arith, below c)
+
+pub offset_bounds-b-i-in-loop-i : goal.offset_bounds-b-i-in-loop-i
+offset_bounds-b-i-in-loop-i c = omega (arith, below c·BEFORE1)
+
+pub bounds-b-i-in-loop-i : goal.bounds-b-i-in-loop-i
+bounds-b-i-in-loop-i c = omega (arith, below c·BEFORE1)
+
+pub overflow_cast-i : goal.overflow_cast-i
+overflow_cast-i c = omega (arith, below c·BEFORE3)
+
+pub overflow_add-i : goal.overflow_add-i
+overflow_add-i c = omega (arith, below c·BEFORE3)
+
+pub overflow_add-i-in-loop-i : goal.overflow_add-i-in-loop-i
+overflow_add-i-in-loop-i c = omega (arith, below c·BEFORE7)
+
+pub shape_of-out : goal.shape_of-out
+shape_of-out c = put_length c.loop-i.invariant.1
