@@ -9,17 +9,15 @@ use Rattle.sheet.proofs.quick.hex_word_at.Goals as goal
 pub overflow_add-at : goal.overflow_add-at
 overflow_add-at c =
     let a = c.args in
-    omega (
-      arith,
-      two_inside a.file.now a.at ((let a = c.args in
-          ap has0x (sym (between_last a.at a.file.now) ∙ sym c.part.ensures) ∙ sym c.has_0x.ensures ∙ c.if-has_0x.true)),
-    )
+    -- 0x stands there
+    let here = ap has0x (sym (between_last a.at a.file.now) ∙ sym c.part.ensures) ∙ sym c.has_0x.ensures ∙ c.if-has_0x.true in
+    omega (arith, two_inside a.file.now a.at here)
 
 pub returns-then-has_0x : goal.returns-then-has_0x
 returns-then-has_0x c =
     let a = c.args in
-    run_word a.file.now a.at ((let a = c.args in
-    ap has0x (sym (between_last a.at a.file.now) ∙ sym c.part.ensures) ∙ sym c.has_0x.ensures ∙ c.if-has_0x.true)) _ c.hex_run.ensures
+    let here = ap has0x (sym (between_last a.at a.file.now) ∙ sym c.part.ensures) ∙ sym c.has_0x.ensures ∙ c.if-has_0x.true in
+    run_word a.file.now a.at here _ c.hex_run.ensures
 
 pub returns : goal.returns
 unfolding Read

@@ -14,7 +14,7 @@ pub overflow_add-value : goal.overflow_add-value
 overflow_add-value c = omega (arith, run_fits c.loop-digit.invariant.0, c.loop-digit-test.true)
 
 pub overflow_add-i : goal.overflow_add-i
-overflow_add-i c = omega (arith, ((hex_here c.args.s.now c.loop-digit.i (omega (arith, c.loop-digit.invariant.1, c.loop-digit-test.true))).inside))
+overflow_add-i c = omega (arith, (hex_here c.args.s.now c.loop-digit.i (omega (arith, c.loop-digit.invariant.1, c.loop-digit-test.true))).inside)
 
 pub overflow_sub-i : goal.overflow_sub-i
 overflow_sub-i c = omega (arith, c.loop-digit.invariant.0.from)
@@ -23,7 +23,7 @@ pub returns-then-i-at-gt-MOST_DIGITS : goal.returns-then-i-at-gt-MOST_DIGITS
 returns-then-i-at-gt-MOST_DIGITS c = sym (run_nine c.loop-digit.invariant.0 (omega (arith, c.loop-digit.invariant.1, c.loop-digit-test.true)) (omega (arith, c.if-i-at-gt-MOST_DIGITS.true)))
 
 pub loop-digit-smaller : goal.loop-digit-smaller
-loop-digit-smaller c = omega (arith, ((hex_here c.args.s.now c.loop-digit.i (omega (arith, c.loop-digit.invariant.1, c.loop-digit-test.true))).inside))
+loop-digit-smaller c = omega (arith, (hex_here c.args.s.now c.loop-digit.i (omega (arith, c.loop-digit.invariant.1, c.loop-digit-test.true))).inside)
 
 pub loop-digit-preserved : goal.loop-digit-preserved
 loop-digit-preserved c =
