@@ -114,7 +114,7 @@ word_set : (t : State) (count number word : ℕ) (words : List ℕ) → 1 ≤ nu
 unfolding changed with_word with_words
 word_set t count number word words h l = rw (take-set-lt count words (number - 1) word (omega arith))
 
-inputs_through : {file words later : List ℕ} {held at line here k : ℕ} (t : State) (count : ℕ) → length t.motors ≡ held → min count most_motors ≡ held
+inputs_through : {held at line : ℕ} {file words later : List ℕ} {here k : ℕ} (t : State) (count : ℕ) → length t.motors ≡ held → min count most_motors ≡ held
     → InputLines file held words at line later here k
     → Through file (record { at = at; state = with_words t (take count words); line = line }) [] (record { at = here; state = with_words t (take count later); line = k })
 unfolding refusal_for with_words answer_of

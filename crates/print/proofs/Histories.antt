@@ -96,7 +96,7 @@ unfolding histories_from states_after state_after if◌then◌else◌
 kept_through hs t [] {n} k = let e : n ≡ n + 0 = omega arith in rw (← e) k
 kept_through hs t (r ∷ rs) {n} k =
     let e : suc n + length rs ≡ n + suc (length rs) = omega arith in
-    rw (← e) (kept_through _ (state_after t r) rs (one (eqb (refusal_for t r) 0) refl))
+    rw (← e) (kept_through (if eqb (refusal_for t r) 0 then histories_after hs t r else hs) (state_after t r) rs (one (eqb (refusal_for t r) 0) refl))
   where
     one : (b : Bool) → eqb (refusal_for t r) 0 ≡ b → Kept (if b then histories_after hs t r else hs) (if b then changed t r else t) (suc n)
     one true e = kept_on r (eqb-true _ _ e) k

@@ -38,6 +38,7 @@ fn row(scan: u32, number: u32, m: Motor) -> Row
 // The I and S lines from a sitting on, up to the first line that is refused or of another kind, and no further than the place
 // `last` of the buffer: what they print is put from `to` on. Each motor is printed as it is scanned, and the records stay where
 // they are: two loops in one function, for a call with the motors would copy them.
+#[tactic(auto, unfolding(rules::specs::Refusals::most_motors))]
 fn scan_lines(file: &[u8], s: Sitting, out: &mut [u8], to: usize, last: usize) -> Advanced
     requires { Room out.old to last × Ready s.bench }
     ensures { Scans file.now s out.old to last out.new result × Over file.now last result }

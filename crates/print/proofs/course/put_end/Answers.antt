@@ -13,47 +13,55 @@ use Rattle.interpreter.proofs.ActLaws.{take_used}
 use Rattle.print.proofs.PrintLaws.{totals_more}
 use Rattle.print.proofs.course.put_end.Goals as goal
 
--- the motor whose turn it is
-below : (c : tie.In-loop invariant-loop decreases-loop) → c.before.loop.i < 32
-below c = omega arith
-
 pub loop-i-init : goal.loop-i-init
 unfolding running_print
 loop-i-init c = (omega arith, put_none)
 
 pub loop-i-preserved : goal.loop-i-preserved
+unfolding most_motors
 loop-i-preserved c =
-    let b = c.args.t1 in
-    let here = below c·BEFORE7 in
-    (omega arith, rw (totals_more c.loop-i.i b.motors b.totals blank no_totals (omega (arith, here, (simp length-map at c.well-formed.0.1.1.0.1.0.1))) (omega (arith, here, (simp length-map at c.well-formed.0.1.1.1.1.1.1.0.1.0.1)))) (then c.loop-i.invariant.1 (rw c.totals_row.ensures at c.put_totals-to.ensures)))
+    let b = c.args.b in
+    let is : length c.args.b.motors ≡ 32 = omega arith in
+    let ts : length c.args.b.totals ≡ 32 = omega arith in
+    let here : c.loop-i.i < 32 = omega arith in
+    (omega arith, rw (totals_more c.loop-i.i b.motors b.totals blank no_totals (omega arith) (omega arith)) (then c.loop-i.invariant.1 (rw c.totals_row.ensures at c.put_totals-to.ensures)))
 
 pub returns : goal.returns
 unfolding at_end
 returns c =
-    let b = c.args.t1 in
+    let b = c.args.b in
+    let is : length c.args.b.motors ≡ 32 = omega arith in
+    let ts : length c.args.b.totals ≡ 32 = omega arith in
     let h : c.loop-i.i ≡ c.in_use-held.result = omega arith in
-    rw (take_used b.count b.motors ((simp length-map at c.well-formed.0.1.1.0.1.0.1)), take_used b.count b.totals ((simp length-map at c.well-formed.0.1.1.1.1.1.1.0.1.0.1)), ← c.in_use-held.ensures, ← h) c.loop-i.invariant.1
+    rw (take_used b.count b.motors is, take_used b.count b.totals ts, ← c.in_use-held.ensures, ← h) c.loop-i.invariant.1
 
 pub offset_bounds-b-i : goal.offset_bounds-b-i
-offset_bounds-b-i c = omega (arith, below c)
+unfolding most_motors
+offset_bounds-b-i c = omega arith
 
 pub bounds-b-i : goal.bounds-b-i
-bounds-b-i c = omega (arith, below c)
+unfolding most_motors
+bounds-b-i c = omega arith
 
 pub offset_bounds-b-i-in-loop-i : goal.offset_bounds-b-i-in-loop-i
-offset_bounds-b-i-in-loop-i c = omega (arith, below c·BEFORE1)
+unfolding most_motors
+offset_bounds-b-i-in-loop-i c = omega arith
 
 pub bounds-b-i-in-loop-i : goal.bounds-b-i-in-loop-i
-bounds-b-i-in-loop-i c = omega (arith, below c·BEFORE1)
+unfolding most_motors
+bounds-b-i-in-loop-i c = omega arith
 
 pub overflow_cast-i : goal.overflow_cast-i
-overflow_cast-i c = omega (arith, below c·BEFORE3)
+unfolding most_motors
+overflow_cast-i c = omega arith
 
 pub overflow_add-i : goal.overflow_add-i
-overflow_add-i c = omega (arith, below c·BEFORE3)
+unfolding most_motors
+overflow_add-i c = omega arith
 
 pub overflow_add-i-in-loop-i : goal.overflow_add-i-in-loop-i
-overflow_add-i-in-loop-i c = omega (arith, below c·BEFORE7)
+unfolding most_motors
+overflow_add-i-in-loop-i c = omega arith
 
 pub shape_of-out : goal.shape_of-out
 shape_of-out c = put_length c.loop-i.invariant.1

@@ -1,5 +1,6 @@
 use mathlib.Core.Path.{◌≡◌, sym, ◌∙◌}
-use lib.ListN.{length-map}
+use native.Mathlib.Omega.{arith}
+use lib.ListN.{length}
 use Rattle.sheet.specs.Grammar.{next_at}
 use Rattle.sheet.specs.declared.Request.TheVariants.{Scan as S}
 use Rattle.sheet.specs.declared.Next.TheVariants.{Taken}
@@ -9,15 +10,16 @@ use Rattle.print.proofs.course.take_line.Goals as goal
 
 pub refuse_scan-requires : goal.refuse_scan-requires
 refuse_scan-requires c =
-    let period = c.request-in-Taken-1.given.0.0 in
-    let next = c.request-1.given.0.1.0 in
-    let h : next_at c.args.file.now c.args.s.at ≡ Taken (S period) next = sym c.next_request.ensures ∙ c.request-1.given.1 ∙ rw c.request-in-Taken-1.given.1 in
+    let period = c.in-Scan.period in
+    let next = c.in-Taken.next in
+    let h : next_at c.args.file.now c.args.s.at ≡ Taken (S period) next = sym c.next_request.ensures ∙ c.in-Taken.is ∙ rw c.in-Scan.is in
     record { next = next; here = h; refused = c.requires.0 period next h }
 
 pub take_request-requires : goal.take_request-requires
-take_request-requires c = (sym c.next_request.ensures ∙ c.request-1.given.1, c.requires.0)
+take_request-requires c = (sym c.next_request.ensures ∙ c.in-Taken.is, c.requires.0)
 
 pub returns-in-Done : goal.returns-in-Done
 returns-in-Done c =
+    let is : length c.args.s.bench.motors ≡ 32 = omega arith in
     rw c.stand.ensures
-    (at_end_lem c.requires.1 (sym c.next_request.ensures ∙ c.enum_told-1.given.1) (simp length-map at c.well-formed.1.0.1.1.0.1.1.0.1.0.1) c.put_end-n.ensures)
+    (at_end_lem c.requires.1 (sym c.next_request.ensures ∙ c.in-Done.is) is c.put_end-n.ensures)

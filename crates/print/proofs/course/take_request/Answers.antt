@@ -1,13 +1,16 @@
 use borrow.Author.Rules.{rules}
-use lib.ListN.{length-map}
+use mathlib.Core.Path.{◌≡◌}
+use native.Mathlib.Omega.{arith}
+use lib.ListN.{length}
 use Rattle.print.proofs.AdvanceLaws.{goes_on_quietly, stops}
 use Rattle.print.proofs.course.take_request.Goals as goal
 
 pub returns-then-refusal-eq0 : goal.returns-then-refusal-eq0
 returns-then-refusal-eq0 c =
     let a = c.act-acted in
+    let is : length a.result.bench.motors ≡ 32 = omega arith in
     rw (c.stand.ensures, c.next_number.ensures)
-    (goes_on_quietly c.requires.0 a.result a.ensures.0 c.requires.1 a.ensures.1 (simp length-map at a.type-inv.1.1.1.0.1.1.0.1.0.1) c.if-refusal-eq0.true)
+    (goes_on_quietly c.requires.0 a.result a.ensures.0 c.requires.1 a.ensures.1 is c.if-refusal-eq0.true)
 
 pub returns : goal.returns
 returns c =
