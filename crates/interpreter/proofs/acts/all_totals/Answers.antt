@@ -1,8 +1,7 @@
-use borrow.Author.Rules.{rules}
 use native.Mathlib.Omega.{arith}
-use Prim.Native.Nat.{ℕ, ◌-◌, ◌<◌, ◌≤◌}
+use Prim.Native.Nat.{ℕ, ◌<◌}
 use mathlib.Core.Path.{◌≡◌, sym, ap, ◌∙◌}
-use lib.ListN.{length, take}
+use lib.ListN.{take}
 use Rattle.rules.specs.Refusals.{most_motors}
 use Rattle.totals.specs.Running.{all_totals}
 use Rattle.totals.proofs.Lists.{none_taken}

@@ -1,5 +1,4 @@
 use mathlib.Core.Path.{refl}
-use borrow.Author.Rules.{rules}
 use Rattle.interpreter.specs.State.{empty_state}
 use Rattle.interpreter.proofs.acts.empty.Goals as goal
 

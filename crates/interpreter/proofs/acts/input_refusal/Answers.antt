@@ -1,4 +1,3 @@
-use borrow.Author.Rules.{rules}
 use Rattle.interpreter.specs.State.{input_refusal}
 use Rattle.interpreter.proofs.acts.input_refusal.Goals as goal
 

@@ -1,4 +1,3 @@
-use borrow.Author.Rules.{rules}
 use native.Mathlib.Omega.{arith}
 use Rattle.rules.specs.Refusals.{most_motors}
 use Rattle.interpreter.specs.State.{motor_refusal}

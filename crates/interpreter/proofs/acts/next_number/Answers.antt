@@ -1,4 +1,3 @@
-use borrow.Author.Rules.{rules}
 use native.Mathlib.Omega.{arith}
 use Rattle.interpreter.specs.State.{next_number}
 use Rattle.interpreter.proofs.acts.next_number.Goals as goal

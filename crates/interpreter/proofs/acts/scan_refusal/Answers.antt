@@ -1,6 +1,6 @@
 use mathlib.Core.Path.{◌≡◌, ◌∙◌}
 use native.Mathlib.Omega.{arith}
-use lib.ListN.{length, length-map}
+use lib.ListN.{length}
 use Rattle.interpreter.proofs.ActLaws.{scan_refusal_lem}
 use Rattle.interpreter.proofs.acts.scan_refusal.Goals as goal
 

@@ -3,7 +3,6 @@ use Rattle.sheet.proofs.PlaceLaws.{other_at}
 use Rattle.sheet.proofs.RequestLaws.{input_begins}
 use Rattle.interpreter.proofs.LineLaws.{no_input_line, same_request, same_input}
 use Rattle.interpreter.proofs.lines.next_input.Goals as goal
-use borrow.Author.Tests.{not-true}
 
 pub returns-then-not-is_at : goal.returns-then-not-is_at
 returns-then-not-is_at c =

@@ -1,4 +1,3 @@
-use borrow.Author.Rules.{rules}
 use mathlib.Core.Path.{sym, ◌∙◌}
 use Rattle.print.proofs.AdvanceLaws.{begun, begun_long}
 use Rattle.print.proofs.course.begin.Goals as goal

@@ -1,12 +1,10 @@
-use borrow.Author.Rules.{rules}
 use native.Mathlib.Omega.{arith}
-use Prim.Native.Nat.{◌-◌, ◌<◌, ◌≤◌}
+use Prim.Native.Nat.{◌<◌}
 use mathlib.Core.Path.{◌≡◌}
-use lib.ListN.{length, take, length-map}
+use lib.ListN.{length}
 use Rattle.rules.specs.Refusals.{most_motors}
 use Rattle.table.proofs.Rows.{blank}
 use Rattle.totals.specs.Running.{no_totals}
-use Rattle.report.specs.Put.{Put}
 use Rattle.report.proofs.PutLaws.{put_length, put_none, then}
 use Rattle.print.specs.Advance.{running_print, at_end}
 use Rattle.interpreter.proofs.ActLaws.{take_used}

@@ -1,6 +1,5 @@
 use mathlib.Core.Path.{sym, ◌∙◌}
 use Rattle.print.proofs.AdvanceLaws.{stops}
-use borrow.Author.Rules.{rules}
 use Rattle.print.proofs.course.refuse_scan.Goals as goal
 
 pub returns : goal.returns

@@ -5,7 +5,6 @@ use Rattle.sheet.specs.Grammar.{next_at}
 use Rattle.sheet.specs.declared.Request.TheVariants.{Scan as S}
 use Rattle.sheet.specs.declared.Next.TheVariants.{Taken}
 use Rattle.print.proofs.AdvanceLaws.{at_end_lem}
-use borrow.Author.Rules.{rules}
 use Rattle.print.proofs.course.take_line.Goals as goal
 
 pub refuse_scan-requires : goal.refuse_scan-requires

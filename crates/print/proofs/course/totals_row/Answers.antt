@@ -1,4 +1,3 @@
-use borrow.Author.Rules.{rules}
 use Rattle.rules.specs.Record.{idle}
 use Rattle.totals.specs.Totals.{under_way_in}
 use Rattle.print.specs.Print.{totals_row}

@@ -3,7 +3,6 @@ use native.Mathlib.Omega.{arith}
 use lib.ListN.{length}
 use Rattle.print.proofs.AdvanceLaws.{scans_none}
 use Rattle.interpreter.proofs.ScanLaws.{ready_if, unready}
-use borrow.Author.Rules.{rules}
 use Rattle.print.proofs.scans.take_scans.Goals as goal
 
 pub scan_lines-requires : goal.scan_lines-requires
