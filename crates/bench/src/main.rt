@@ -1,6 +1,11 @@
 // The bench program: reads a file from standard input, and prints what the block reports of it.
 #![tactic(auto)]
 
+ghost use Rattle.std.specs.Prelude.{◌≡◌, take, IfOk, IfSome, OnOk};
+ghost use Rattle.std.specs.Io.KnownBytes.{Appends};
+ghost use Rattle.print.specs.Print.{print_of};
+
+use std::alloc::Global;
 use std::io;
 use std::io::{Read, Write};
 
@@ -10,8 +15,10 @@ const ROOM_IN: usize = 65537;
 // As much as a pipe holds, so that prints cost few writes.
 const ROOM_OUT: usize = 65536;
 
-// The print of a file, a buffer at a time, up to the first write that fails.
-fn print<W: Write>(file: &[u8], to: &mut W) -> io::Result<()> {
+// The print of a file, a buffer at a time.
+fn print<W: Write>(file: &[u8], to: &mut W) -> io::Result<()>
+    ensures { OnOk result (Appends (W.contents to.old) (W.contents to.new) (print_of file.now)) }
+{
     let mut out = [0u8; ROOM_OUT];
     let begun = print::begin(file, &mut out, 0);
     to.write_all(&out[..begun.to])?;
@@ -24,8 +31,23 @@ fn print<W: Write>(file: &[u8], to: &mut W) -> io::Result<()> {
     Ok(())
 }
 
+// What stands in a reader, or as much of it as shows that it is too long.
+fn read_front<R: Read + Drop>(alloc: Global, from: R) -> io::Result<Vec<u8>>
+    ensures { IfOk result (λ file. IfSome (R.remaining from) (λ all. file.items ≡ take 65537 all)) }
+{
+    let mut file = Vec::with_capacity(alloc, ROOM_IN)?;
+    from.take(ROOM_IN as u64).read_to_end(&mut file)?;
+    Ok(file)
+}
+
+// The print of what stands in a reader.
+fn run<R: Read + Drop, W: Write>(alloc: Global, from: R, to: &mut W) -> io::Result<()>
+    ensures { OnOk result (IfSome (R.remaining from) (λ file. Appends (W.contents to.old) (W.contents to.new) (print_of file))) }
+{
+    let file = read_front(alloc, from)?;
+    print(&file, to)
+}
+
 fn main(rt: HostRuntime) -> io::Result<()> {
-    let mut file = Vec::with_capacity(rt.alloc(), ROOM_IN)?;
-    rt.stdin().take(ROOM_IN as u64).read_to_end(&mut file)?;
-    print(&file, &mut rt.stdout())
+    run(rt.alloc(), rt.stdin(), &mut rt.stdout())
 }

@@ -39,7 +39,7 @@ calls_rest few e (one_buffer h m f c) =
 -- ---- the whole dump
 
 -- in a file that is too long no call is made
-dump_long : (file : List ℕ) → 65536 < length file → dump_of file ≡ []
+pub dump_long : (file : List ℕ) → 65536 < length file → dump_of file ≡ []
 unfolding dump_of too_long if◌then◌else◌
 dump_long file h = rw (lt-ltb 65536 (length file) h)
 
