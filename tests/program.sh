@@ -41,16 +41,32 @@ head -c 65536 /dev/zero | "$program" > "$work/got"
 expect "65,536 bytes" "$work/got" "$work/five"
 head -c 65536 /dev/zero | "$wave" > "$work/got"
 expect "65,536 bytes, dumped" "$work/got" "$work/empty.vcd"
-# an output that nobody reads any more: it ends, by itself or by the signal that this sends
+# an output that nobody reads any more, or that is closed from the start: the program ends, and says that it could not write
+told() { # name, status
+  [ "$2" -eq 1 ] && grep -q '^Error: ' "$work/said" || { echo "tests/program.sh: $1: ended with $2, and said"; cat "$work/said"; exit 1; }
+}
+ended() { # name, program, its input
+  status=0
+  timeout 10 "$2" < "$3" 2> "$work/said" | head -c 10 > /dev/null || status=${PIPESTATUS[0]}
+  told "$1, not read" "$status"
+  status=0
+  timeout 10 "$2" < "$3" 2> "$work/said" >&- || status=$?
+  told "$1, closed" "$status"
+}
 { for i in $(seq 1 32); do echo "M,$i,193,0,500,300"; done; for i in $(seq 1 5000); do echo S,100; done; } > "$work/large.txt"
-timeout 10 "$program" < "$work/large.txt" | head -c 10 > /dev/null || [ "${PIPESTATUS[0]}" -ne 124 ]
-timeout 10 "$program" < "$work/large.txt" >&- || [ $? -ne 124 ]
+ended "a long print" "$program" "$work/large.txt"
 # a dump of more than one buffer: a change in each scan
 { echo M,1,4165,0,0,1; for i in $(seq 1 2340); do printf 'I,1,6\nS,9\nS,9\nI,1,1\nS,9\nS,9\n'; done; } > "$work/changes.txt"
 [ "$("$wave" < "$work/changes.txt" | wc -c)" -gt 65536 ] || { echo "tests/program.sh: the long dump is short"; exit 1; }
-timeout 10 "$wave" < "$work/changes.txt" | head -c 10 > /dev/null || [ "${PIPESTATUS[0]}" -ne 124 ]
-timeout 10 "$wave" < "$work/changes.txt" >&- || [ $? -ne 124 ]
+ended "a long dump" "$wave" "$work/changes.txt"
 echo "ok: closed output"
+# an input that cannot be read is no empty file: nothing is printed, and the program says so
+for each in "$program" "$wave"; do
+  status=0
+  "$each" < "$work" > "$work/got" 2> "$work/said" || status=$?
+  told "a folder as input" "$status"
+  expect "a folder as input" "$work/got" "$work/none"
+done
 # the root script: every wrong call says what is wrong and ends with 2
 for call in "./bench sheets/first.txt" "./bench --help" "./bench wave sheets/first.txt" "./bench bench wave"; do
   if $call < /dev/null 2> "$work/said"; then echo "tests/program.sh: $call did not refuse"; exit 1; fi
