@@ -116,7 +116,7 @@ module _ {file : List ℕ} {s : Recording} {to : ℕ} {out : List ℕ} where
 
 -- ---- runs of I lines, which add nothing
 
-inputs_through : {file words later : List ℕ} {held at line here k : ℕ} (ms : List Motor) (scans time count : ℕ) → length ms ≡ held → min count most_motors ≡ held
+inputs_through : {file words : List ℕ} {held at line : ℕ} {later : List ℕ} {here k : ℕ} (ms : List Motor) (scans time count : ℕ) → length ms ≡ held → min count most_motors ≡ held
     → InputLines file held words at line later here k
     → Through file (record { at = at; motors = ms; words = take count words; scans = scans; time = time }) []
     (record { at = here; motors = ms; words = take count later; scans = scans; time = time })

@@ -40,6 +40,7 @@ pub fn output_states(motors: [Motor; MOST_MOTORS]) -> [u32; MOST_MOTORS]
     states
 }
 
+#[tactic(auto, unfolding(rules::specs::Refusals::most_motors))]
 fn put_wires(out: &mut [u8], at: usize, held: usize) -> usize
     requires { held ≤ most_motors }
     ensures { Put out.old at (wires_from 0 1 held) out.new result }
@@ -54,6 +55,7 @@ fn put_wires(out: &mut [u8], at: usize, held: usize) -> usize
     to
 }
 
+#[tactic(auto, unfolding(rules::specs::Refusals::most_motors))]
 fn put_values(out: &mut [u8], at: usize, states: [u32; MOST_MOTORS], held: usize) -> usize
     requires { held ≤ most_motors }
     ensures { Put out.old at (values_from 0 (state_signals (take held states))) out.new result }
@@ -99,6 +101,7 @@ pub fn put_first(
 }
 
 // Whether any signal changed.
+#[tactic(auto, unfolding(rules::specs::Refusals::most_motors))]
 fn has_changes(before: [u32; MOST_MOTORS], after: [u32; MOST_MOTORS], held: usize) -> bool
     requires { held ≤ most_motors }
     ensures { Tells (changes_from 0 (state_signals (take held before)) (state_signals (take held after))) result }
@@ -123,6 +126,7 @@ fn put_change(out: &mut [u8], at: usize, code: u8, before: bool, after: bool) ->
 }
 
 // The signals that changed, by number.
+#[tactic(auto, unfolding(rules::specs::Refusals::most_motors))]
 fn put_changed(
     out: &mut [u8],
     at: usize,

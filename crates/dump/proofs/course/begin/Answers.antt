@@ -8,8 +8,6 @@ use Rattle.dump.proofs.ReadBack.{claimed}
 use borrow.Author.Rules.{rules}
 use Rattle.dump.proofs.course.begin.Goals as goal
 
-)
-
 pub returns-then-is_too_long : goal.returns-then-is_too_long
 unfolding if◌then◌else◌
 returns-then-is_too_long c =
@@ -26,3 +24,4 @@ unfolding if◌then◌else◌
 returns c = (
   record { at = rw (sym c.is_too_long.ensures ∙ c.if-is_too_long.false); moment_is = ap (λ (t : State). moment 0 t 0) c.empty-bench.ensures },
   claimed c.args.file.now,
+)

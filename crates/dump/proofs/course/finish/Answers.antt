@@ -1,6 +1,6 @@
 use native.Mathlib.Omega.{arith}
 use mathlib.Core.Path.{◌≡◌, refl}
-use lib.ListN.{length, length-map}
+use lib.ListN.{length}
 use Rattle.rules.specs.Refusals.{most_motors}
 use Rattle.interpreter.proofs.ActLaws.{take_used}
 use Rattle.dump.proofs.SignalLaws.{first_is}
@@ -16,5 +16,5 @@ unfolding most_motors
 returns c =
     let b = c.args.s.bench in
     let n = c.in_use in
-    let is = (simp length-map at c.well-formed.1.0.1.1.0.1.1.0.1.0.1) in
+    let is : length b.motors ≡ 32 = omega arith in
     rw c.stand.ensures (record { put = rw (take_used b.count b.motors is, ← n.ensures, ← first_is b.motors n.result (omega (arith, n.ensures, is)) b.scans, ← c.output_states-states.ensures) c.put_first-n.ensures; past = refl })

@@ -1,5 +1,6 @@
-use mathlib.Core.Path.{sym, ◌∙◌}
-use lib.ListN.{length-map}
+use mathlib.Core.Path.{◌≡◌, sym, ◌∙◌}
+use native.Mathlib.Omega.{arith}
+use lib.ListN.{length}
 use Rattle.dump.proofs.AdvanceLaws.{goes_on, stops}
 use borrow.Author.Rules.{rules}
 use Rattle.dump.proofs.course.take_request.Goals as goal
@@ -12,4 +13,5 @@ returns-then-acted-eq0 c =
 pub returns : goal.returns
 returns c =
     let a = c.act-acted in
-    stops (simp length-map at c.well-formed.1.0.1.1.0.1.1.0.1.0.1) c.finish.ensures c.requires.0 (λ z. c.if-acted-eq0.false (a.ensures.0 ∙ z))
+    let is : length c.args.s.bench.motors ≡ 32 = omega arith in
+    stops is c.finish.ensures c.requires.0 (λ z. c.if-acted-eq0.false (a.ensures.0 ∙ z))

@@ -17,11 +17,13 @@ loop-i-smaller c = omega (arith, c.loop-i-test.true)
 pub loop-i-preserved : goal.loop-i-preserved
 loop-i-preserved c =
     let l = c.loop-i in
+    let is : length c.args.motors ≡ 32 = omega arith in
     let here = c.loop-i-test.true in
-    (omega (arith, here), length-set l.states l.i _ ∙ l.invariant.1, state_more c.args.t1 l.states l.i blank (omega (arith, here, (c.well-formed.0.1.0.1))) (omega (arith, here, l.invariant.1)) l.invariant.2)
+    (omega (arith, here), length-set l.states l.i _ ∙ l.invariant.1, state_more c.args.motors l.states l.i blank (omega (arith, here, is)) (omega (arith, here, l.invariant.1)) l.invariant.2)
 
 pub returns : goal.returns
 returns c =
     let l = c.loop-i in
+    let is : length c.args.motors ≡ 32 = omega arith in
     let e : l.i ≡ 32 = omega (arith, c.loop-i-test.false, l.invariant.0) in
-    all_states c.args.t1 l.states ((c.well-formed.0.1.0.1)) l.invariant.1 (rw e at l.invariant.2)
+    all_states c.args.motors l.states is l.invariant.1 (rw e at l.invariant.2)

@@ -11,50 +11,18 @@ use Rattle.dump.proofs.SignalLaws.{changes_more}
 use borrow.Author.Rules.{rules}
 use Rattle.dump.proofs.signals.put_changed.Goals as goal
 
-below : (c : tie.In-loop invariant-loop decreases-loop) → c.before.loop.i < 32
-below c = omega (arith, c.loop-test.true, c.before.before.before.requires)
 pub loop-i-init : goal.loop-i-init
 unfolding changes_from state_signals
 loop-i-init c = (omega arith, put_none)
 
-pub offset_bounds-before-i : goal.offset_bounds-before-i
-offset_bounds-before-i c = omega (arith, below c)
-
-pub bounds-before-i : goal.bounds-before-i
-bounds-before-i c = omega (arith, below c)
-
-pub offset_bounds-after-i : goal.offset_bounds-after-i
-offset_bounds-after-i c = omega (arith, below c)
-
-pub bounds-after-i : goal.bounds-after-i
-bounds-after-i c = omega (arith, below c)
-
-pub overflow_mul-i : goal.overflow_mul-i
-overflow_mul-i c = omega (arith, below c·BEFORE1)
-
-pub code-requires : goal.code-requires
-code-requires c = omega (arith, below c·BEFORE1)
-
-pub overflow_mul-i-in-loop-i : goal.overflow_mul-i-in-loop-i
-overflow_mul-i-in-loop-i c = omega (arith, below c·BEFORE6)
-
-pub overflow_add-i : goal.overflow_add-i
-overflow_add-i c = omega (arith, below c·BEFORE6)
-
-pub code-requires-in-loop-i : goal.code-requires-in-loop-i
-code-requires-in-loop-i c = omega (arith, below c·BEFORE6)
-
-pub overflow_add-i-in-loop-i : goal.overflow_add-i-in-loop-i
-overflow_add-i-in-loop-i c = omega (arith, below c·BEFORE10)
-
-pub loop-i-smaller : goal.loop-i-smaller
-loop-i-smaller c = omega (arith, c.loop-i-test.true)
-
 pub loop-i-preserved : goal.loop-i-preserved
+unfolding most_motors
 loop-i-preserved c =
     let l = c.loop-i in
-    let here = below c·BEFORE10 in
-    (omega (arith, c.loop-i-test.true), rw (changes_more l.i c.args.t3 c.args.t4 0 0 (omega (arith, here, (c.well-formed.1.1.0.1.0.1))) (omega (arith, here, (c.well-formed.1.1.1.0.1.0.1))), c.code.ensures, c.code-in-loop-i.ensures) (then l.invariant.1 (then c.put_change-to.ensures c.put_change-to-in-loop-i.ensures)))
+    let is : length c.args.before ≡ 32 = omega arith in
+    let js : length c.args.after ≡ 32 = omega arith in
+    let here : l.i < 32 = omega (arith, c.loop-i-test.true, c.requires) in
+    (omega (arith, c.loop-i-test.true), rw (changes_more l.i c.args.before c.args.after 0 0 (omega (arith, here, is)) (omega (arith, here, js)), c.code.ensures, c.code-in-loop-i.ensures) (then l.invariant.1 (then c.put_change-to.ensures c.put_change-to-in-loop-i.ensures)))
 
 pub shape_of-out : goal.shape_of-out
 shape_of-out c = put_length c.loop-i.invariant.1
