@@ -40,6 +40,7 @@ fn stepped(m: Motor, word: u32, period: u32) -> Motor
 // The I and S lines from a recording on, up to the first line that is refused or of another kind, and no further than the place
 // `last` of the buffer: what they add is put from `to` on. The motors stay where they are: two loops in one function, for a call with
 // them would copy them.
+#[tactic(auto, unfolding(rules::specs::Refusals::most_motors))]
 fn scan_lines(file: &[u8], s: Recording, out: &mut [u8], to: usize, last: usize) -> Recorded
     requires { Room out.old to last × Ready s.bench }
     ensures { Scans file.now s out.old to last out.new result × Over file.now last result }
