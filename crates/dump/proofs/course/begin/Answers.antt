@@ -5,7 +5,6 @@ use Rattle.words.specs.Word.{if◌then◌else◌}
 use Rattle.interpreter.specs.State.{State}
 use Rattle.dump.specs.Advance.{moment}
 use Rattle.dump.proofs.ReadBack.{claimed}
-use borrow.Author.Rules.{rules}
 use Rattle.dump.proofs.course.begin.Goals as goal
 
 pub returns-then-is_too_long : goal.returns-then-is_too_long

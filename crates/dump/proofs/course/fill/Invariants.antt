@@ -1,9 +1,6 @@
-use borrow.Author.Rules.{rules}
-use native.Mathlib.Omega.{arith}
-use Prim.Native.Nat.{suc, ◌-◌, ◌≤◌}
+use Prim.Native.Nat.{suc, ◌-◌}
 use lib.ListN.{length}
-use Rattle.report.proofs.PutLaws.{put_length, then}
-use Rattle.dump.proofs.AdvanceLaws.{Filling, filling_none, none_filled, taken, room_left, filling_more, filled_up, filled}
+use Rattle.dump.proofs.AdvanceLaws.{Filling}
 use Rattle.dump.proofs.course.fill.Given as goal
 
 abbrev pub invariant-loop-here : goal.invariant-loop-here

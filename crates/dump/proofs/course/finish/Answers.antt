@@ -4,7 +4,6 @@ use lib.ListN.{length}
 use Rattle.rules.specs.Refusals.{most_motors}
 use Rattle.interpreter.proofs.ActLaws.{take_used}
 use Rattle.dump.proofs.SignalLaws.{first_is}
-use borrow.Author.Rules.{rules}
 use Rattle.dump.proofs.course.finish.Goals as goal
 
 pub put_first-n-requires : goal.put_first-n-requires

@@ -2,7 +2,6 @@ use mathlib.Core.Path.{◌≡◌, sym, ◌∙◌}
 use native.Mathlib.Omega.{arith}
 use lib.ListN.{length}
 use Rattle.dump.proofs.AdvanceLaws.{at_end_lem}
-use borrow.Author.Rules.{rules}
 use Rattle.dump.proofs.course.take_line.Goals as goal
 
 pub take_request-requires : goal.take_request-requires

@@ -2,7 +2,6 @@ use mathlib.Core.Path.{◌≡◌, sym, ◌∙◌}
 use native.Mathlib.Omega.{arith}
 use lib.ListN.{length}
 use Rattle.dump.proofs.AdvanceLaws.{goes_on, stops}
-use borrow.Author.Rules.{rules}
 use Rattle.dump.proofs.course.take_request.Goals as goal
 
 pub returns-then-acted-eq0 : goal.returns-then-acted-eq0

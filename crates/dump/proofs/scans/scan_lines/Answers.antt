@@ -4,12 +4,10 @@ use Prim.Native.Nat.{ℕ, ◌<◌, min}
 use mathlib.Core.Path.{◌≡◌, sym, ap, ◌∙◌}
 use mathlib.Core.List.{List}
 use lib.ListN.{length, take, get_or}
-use Rattle.rules.specs.declared.Motor.{Motor}
 use Rattle.rules.specs.Refusals.{most_motors, one_refusal, part_refusal, step_all}
 use Rattle.rules.proofs.Tables.{none_stepped, not_yet, length_step_all, part_stepped}
 use Rattle.table.proofs.Rows.{blank}
 use Rattle.sheet.proofs.RequestLaws.{taken}
-use Rattle.report.proofs.PutLaws.{put_length}
 use Rattle.interpreter.specs.Lines.{FoundScan, Ready, Run}
 use Rattle.interpreter.specs.declared.Bench.{Bench}
 use Rattle.interpreter.specs.declared.lines.Inputs.{Inputs}

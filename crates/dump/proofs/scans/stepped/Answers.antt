@@ -2,7 +2,6 @@ use mathlib.Core.Path.{sym, ap, ◌∙◌}
 use Rattle.rules.specs.Record.{with_status}
 use Rattle.rules.proofs.Tables.{one_accepted}
 use Rattle.interpreter.proofs.ScanLaws.{rested}
-use borrow.Author.Rules.{rules}
 use Rattle.dump.proofs.scans.stepped.Goals as goal
 
 pub returns-then-is_resting : goal.returns-then-is_resting

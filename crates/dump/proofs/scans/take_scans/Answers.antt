@@ -4,7 +4,6 @@ use lib.ListN.{length}
 use Rattle.sheet.specs.declared.Request.TheVariants.{Scan as S}
 use Rattle.dump.proofs.AdvanceLaws.{same_refusal, scans_none}
 use Rattle.interpreter.proofs.ScanLaws.{ready_if, unready}
-use borrow.Author.Rules.{rules}
 use Rattle.dump.proofs.scans.take_scans.Goals as goal
 
 pub scan_lines-requires : goal.scan_lines-requires

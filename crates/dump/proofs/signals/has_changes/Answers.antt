@@ -1,13 +1,11 @@
-use Prim.Native.Nat.{◌-◌, ◌<◌, ◌≤◌}
+use Prim.Native.Nat.{◌<◌}
 use mathlib.Core.Path.{◌≡◌, refl}
 use native.Mathlib.Omega.{arith}
-use lib.ListN.{length, take}
+use lib.ListN.{length}
 use Rattle.rules.specs.Refusals.{most_motors}
 use Rattle.vcd.specs.Text.{changes_from}
 use Rattle.dump.specs.Dump.{state_signals}
-use Rattle.dump.specs.Signals.{Tells}
 use Rattle.dump.proofs.SignalLaws.{tells_more}
-use borrow.Author.Rules.{rules}
 use Rattle.dump.proofs.signals.has_changes.Goals as goal
 
 pub loop-i-init : goal.loop-i-init

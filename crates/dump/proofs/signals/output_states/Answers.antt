@@ -1,11 +1,8 @@
-use Prim.Native.Nat.{◌-◌, ◌≤◌}
 use mathlib.Core.Path.{◌≡◌, refl, ◌∙◌}
 use native.Mathlib.Omega.{arith}
-use lib.ListN.{length, take, length-set}
+use lib.ListN.{length, length-set}
 use Rattle.table.proofs.Rows.{blank}
-use Rattle.dump.specs.Dump.{output_states}
 use Rattle.dump.proofs.SignalLaws.{state_more, all_states}
-use borrow.Author.Rules.{rules}
 use Rattle.dump.proofs.signals.output_states.Goals as goal
 
 pub loop-i-init : goal.loop-i-init

@@ -1,11 +1,7 @@
 use Prim.Native.Nat.{◌-◌, ◌≤◌}
-use mathlib.Core.Path.{◌≡◌, refl, ◌∙◌}
-use native.Mathlib.Omega.{arith}
-use lib.ListN.{length, take, length-set}
-use Rattle.table.proofs.Rows.{blank}
+use mathlib.Core.Path.{◌≡◌}
+use lib.ListN.{length, take}
 use Rattle.dump.specs.Dump.{output_states}
-use Rattle.dump.proofs.SignalLaws.{state_more, all_states}
-use borrow.Author.Rules.{rules}
 use Rattle.dump.proofs.signals.output_states.Given as goal
 
 abbrev pub invariant-loop-i : goal.invariant-loop-i

@@ -1,7 +1,6 @@
 use Rattle.words.specs.Word.{if◌then◌else◌}
 use Rattle.report.proofs.PutLaws.{put_none}
 use Rattle.vcd.specs.Text.{change_line, differs}
-use borrow.Author.Rules.{rules}
 use Rattle.dump.proofs.signals.put_change.Goals as goal
 
 pub returns-then-before-after : goal.returns-then-before-after

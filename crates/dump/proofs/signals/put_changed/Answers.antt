@@ -1,14 +1,12 @@
-use Prim.Native.Nat.{◌-◌, ◌<◌, ◌≤◌}
+use Prim.Native.Nat.{◌<◌}
 use mathlib.Core.Path.{◌≡◌}
 use native.Mathlib.Omega.{arith}
-use lib.ListN.{length, take}
+use lib.ListN.{length}
 use Rattle.rules.specs.Refusals.{most_motors}
 use Rattle.vcd.specs.Text.{changes_from}
-use Rattle.report.specs.Put.{Put}
 use Rattle.report.proofs.PutLaws.{put_none, put_length, then}
 use Rattle.dump.specs.Dump.{state_signals}
 use Rattle.dump.proofs.SignalLaws.{changes_more}
-use borrow.Author.Rules.{rules}
 use Rattle.dump.proofs.signals.put_changed.Goals as goal
 
 pub loop-i-init : goal.loop-i-init

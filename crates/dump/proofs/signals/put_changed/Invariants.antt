@@ -1,14 +1,8 @@
-use Prim.Native.Nat.{◌-◌, ◌<◌, ◌≤◌}
-use mathlib.Core.Path.{◌≡◌}
-use native.Mathlib.Omega.{arith}
-use lib.ListN.{length, take}
-use Rattle.rules.specs.Refusals.{most_motors}
+use Prim.Native.Nat.{◌-◌, ◌≤◌}
+use lib.ListN.{take}
 use Rattle.vcd.specs.Text.{changes_from}
 use Rattle.report.specs.Put.{Put}
-use Rattle.report.proofs.PutLaws.{put_none, put_length, then}
 use Rattle.dump.specs.Dump.{state_signals}
-use Rattle.dump.proofs.SignalLaws.{changes_more}
-use borrow.Author.Rules.{rules}
 use Rattle.dump.proofs.signals.put_changed.Given as goal
 
 abbrev pub invariant-loop-i : goal.invariant-loop-i

@@ -2,7 +2,6 @@ use borrow.Author.Tests.{eq-eqb, ne_eqb}
 use Rattle.words.specs.Word.{if◌then◌else◌}
 use Rattle.report.proofs.PutLaws.{put_none}
 use Rattle.dump.specs.Signals.{first_by}
-use borrow.Author.Rules.{rules}
 use Rattle.dump.proofs.signals.put_first.Goals as goal
 
 pub returns-then-scans-eq0 : goal.returns-then-scans-eq0

@@ -1,6 +1,5 @@
 use Rattle.vcd.specs.Text.{header_of, opening_of}
 use Rattle.report.proofs.PutLaws.{then}
-use borrow.Author.Rules.{rules}
 use Rattle.dump.proofs.signals.put_opening.Goals as goal
 
 pub returns : goal.returns

@@ -2,7 +2,6 @@ use mathlib.Core.List.{append-nil}
 use Rattle.vcd.proofs.TextLaws.{timed_some, timed_none}
 use Rattle.report.proofs.PutLaws.{then, put_length}
 use Rattle.dump.specs.Signals.{first_by, scan_by}
-use borrow.Author.Rules.{rules}
 use Rattle.dump.proofs.signals.put_scan.Goals as goal
 
 pub returns-then-has_changes : goal.returns-then-has_changes

@@ -1,12 +1,6 @@
-use Prim.Native.Nat.{◌-◌, ◌<◌, ◌≤◌}
-use mathlib.Core.Path.{◌≡◌}
-use native.Mathlib.Omega.{arith}
-use Rattle.rules.specs.Refusals.{most_motors}
+use Prim.Native.Nat.{◌-◌, ◌≤◌}
 use Rattle.vcd.specs.Text.{wires_from}
 use Rattle.report.specs.Put.{Put}
-use Rattle.report.proofs.PutLaws.{put_none, put_length, then}
-use Rattle.dump.proofs.SignalLaws.{wires_more}
-use borrow.Author.Rules.{rules}
 use Rattle.dump.proofs.signals.put_wires.Given as goal
 
 abbrev pub invariant-loop-i : goal.invariant-loop-i
