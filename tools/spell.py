@@ -1,6 +1,7 @@
 #!/usr/bin/env python3
 """Brings this repository's own definitions and lemmas to the spelling of today's Rattle: words in snake case, a prime as an
-apostrophe. Types and modules are in camel case already.
+apostrophe. Types and modules are in camel case already. The choice of words/specs is written with `when`, since `if` is the
+library's own word for another definition, and no other may stand under it.
 
 usage: python3 tools/spell.py [--show]     at the top of the repository, once, after port.py
 
@@ -94,7 +95,15 @@ def all_words():
 
 
 def turned(text, to):
-    return WORD.sub(lambda m: to.get(m.group(0), m.group(0)), text)
+    return chosen(WORD.sub(lambda m: to.get(m.group(0), m.group(0)), text))
+
+
+CHOICE = re.compile(r"(?<![\w.'◌-])if(?![\w'◌-])")
+
+
+def chosen(text):
+    """A line of antt with `when a then b else c`."""
+    return CHOICE.sub("when", text.replace("if◌then◌else◌", "when◌then◌else◌"))
 
 
 def turned_antt(text, to):
@@ -119,8 +128,7 @@ def turned_antt(text, to):
 
 def in_prose(text, to):
     text = re.sub(r"`[^`]*`", lambda m: turned(m.group(0), to), text)
-    camel = {a: b for a, b in to.items() if re.search(r"[a-z][A-Z]", a)}
-    return turned(text, camel)
+    return WORD.sub(lambda m: to.get(m.group(0), m.group(0)) if re.search(r"[a-z][A-Z]", m.group(0)) else m.group(0), text)
 
 
 def turned_rt(text, to):
@@ -144,6 +152,17 @@ def borrows(line):
     if not m or parts[0] == "Rattle" and len(parts) > 1 and os.path.isdir(os.path.join(ROOT, "crates", parts[1])):
         return None
     return {n.strip() for n in m.group(2).split(",")}
+
+
+def turned_edit(text, to):
+    """An edit's names; its choices where it is one of a definition, and not of code."""
+    out, spec = [], False
+    for line in text.split("\n"):
+        if line.startswith("file: "):
+            spec = line.endswith(".antt")
+        new = WORD.sub(lambda m: to.get(m.group(0), m.group(0)), line)
+        out.append(chosen(new) if spec and not line.startswith("file: ") else new)
+    return "\n".join(out)
 
 
 def main():
@@ -173,7 +192,7 @@ def main():
             elif f.endswith(".rt"):
                 turn = turned_rt
             elif f.endswith(".edit"):
-                turn = turned
+                turn = turned_edit
             elif f.endswith(".md"):
                 turn = in_prose
             else:

@@ -5,7 +5,7 @@ use mathlib.Core.Bool.{Bool, true, false}
 use native.Mathlib.Omega.{arith}
 use lib.Dec.{eqb, leb}
 use borrow.Author.Tests.{lt-ltb, le-ltb}
-use Rattle.words.specs.Word.{if◌then◌else◌}
+use Rattle.words.specs.Word.{when◌then◌else◌}
 use Rattle.words.proofs.Laws.{either, if_map}
 use Rattle.rules.specs.declared.Settings.{Settings}
 use Rattle.rules.specs.declared.Status.{Status}
@@ -23,7 +23,7 @@ use Rattle.book.specs.Book.{Book, since, is_up, book1to6, book_scan, book_of}
 
 -- whether the time is up, as the record has it
 unfoldable up_of : Settings → Status → ℕ → ℕ → Bool
-up_of s v sum p = leb s.w (if idle v then sum else sum + p)
+up_of s v sum p = leb s.w (when idle v then sum else sum + p)
 
 -- a command under way ends in step 4, and the end that this gives
 unfoldable pub ends_in : Settings → Status → ℕ → Bool → Bool
@@ -36,7 +36,7 @@ step9_settings : (m : Motor) (c : ℕ) → (step9 m c).settings ≡ m.settings
 unfolding step9 issue
 step9_settings m c = either (λ (n : Motor). n.settings ≡ m.settings) _ refl refl
 
-step9_sum : (m : Motor) (c : ℕ) → (step9 m c).sum ≡ (if eqb c 0 then m.sum else 0)
+step9_sum : (m : Motor) (c : ℕ) → (step9 m c).sum ≡ (when eqb c 0 then m.sum else 0)
 unfolding step9 issue
 step9_sum m c = if_map (λ (n : Motor). n.sum) (eqb c 0) m (issue m c)
 
@@ -51,8 +51,8 @@ status_step m word p s v e f = rw (← e, ← f) (ap (λ (v : Status). status10 
 
 sum_step : (m : Motor) (word p : ℕ) (s : Settings) (v : Status) → m.settings ≡ s → m.status ≡ v
     → (step m word p).sum
-    ≡ (if eqb (issued s (status1to6 s v word (up_of s v m.sum p)) word) 0
-    then (if ends_in s v word (up_of s v m.sum p) then 0 else if idle v then m.sum else m.sum + p)
+    ≡ (when eqb (issued s (status1to6 s v word (up_of s v m.sum p)) word) 0
+    then (when ends_in s v word (up_of s v m.sum p) then 0 else when idle v then m.sum else m.sum + p)
     else 0)
 unfolding step steps1to5 steps6to10 with_status step4 step3 time_up status1to6 ends_in up_of idle status2 status1 with_flags with_positions with_command
 sum_step m word p s v e f = rw (← e, ← f) (step9_sum _ _)
@@ -62,14 +62,14 @@ sum_step m word p s v e f = rw (← e, ← f) (step9_sum _ _)
 -- command and end after a scan
 pub command_after : (s : Settings) (v : Status) (word : ℕ) (up : Bool)
     → (status7to10 s (status1to6 s v word up) word).command
-    ≡ (if eqb (issued s (status1to6 s v word up) word) 0 then (if ends_in s v word up then 0 else v.command) else issued s (status1to6 s v word up) word)
+    ≡ (when eqb (issued s (status1to6 s v word up) word) 0 then (when ends_in s v word up then 0 else v.command) else issued s (status1to6 s v word up) word)
 unfolding status7to10 status10 status9 with_previous issue_status status7 with_flags with_mode with_command with_positions status1to6 status6 status5 status4 status2 status1 ends_in
 command_after s v word up = if_map (λ (x : Status). x.command) _ _ _
 
 pub end_after : (s : Settings) (v : Status) (word : ℕ) (up : Bool)
     → (status7to10 s (status1to6 s v word up) word).end
-    ≡ (if eqb (issued s (status1to6 s v word up) word) 0 then end_in s v word up
-    else if eqb (if ends_in s v word up then 0 else v.command) 0 then end_in s v word up else end_displaced)
+    ≡ (when eqb (issued s (status1to6 s v word up) word) 0 then end_in s v word up
+    else when eqb (when ends_in s v word up then 0 else v.command) 0 then end_in s v word up else end_displaced)
 unfolding status7to10 status10 status9 with_previous issue_status status7 with_flags with_mode with_command with_positions status1to6 status6 status5 status4 status2 status1 ends_in end_in ended end4 idle
 end_after s v word up = if_map (λ (x : Status). x.end) _ _ _
 
@@ -87,12 +87,12 @@ same_to6 s v word a b h =
 -- ---- the time since a scan
 
 pub none_since : (i : ℕ) (h : Log Input) → count h ≤ i → since i h ≡ 0
-unfolding since count if◌then◌else◌
+unfolding since count when◌then◌else◌
 none_since i none le = refl
 none_since i (h ▸ x) le = rw (le-ltb i (suc (count h)) le) (omega (arith, none_since i h (omega arith)))
 
 pub one_since : (i : ℕ) (h : Log Input) (x : Input) → i ≤ count h → since i (h ▸ x) ≡ since i h + x.period
-unfolding since count if◌then◌else◌
+unfolding since count when◌then◌else◌
 one_since i h x le = rw (lt-ltb i (suc (count h)) (omega arith))
 
 -- ---- record and book agree, and the sum of a command under way is the time since its issue
@@ -111,7 +111,7 @@ module _ (s : Settings) (h : Log Input) (m : Motor) (b : Book) (x : Input) (k : 
   up_b = is_up s b.issue (h ▸ x)
 
   up_same : idle b.status ≡ false → up_m ≡ up_b
-  unfolding up_m up_b up_of is_up if◌then◌else◌
+  unfolding up_m up_b up_of is_up when◌then◌else◌
   up_same i = rw (i, one_since b.issue h x k.number, k.sum_is i)
 
   to6_same : status1to6 s b.status x.word up_m ≡ status1to6 s b.status x.word up_b
@@ -121,17 +121,17 @@ module _ (s : Settings) (h : Log Input) (m : Motor) (b : Book) (x : Input) (k : 
   unfolding book_scan book1to6 up_m up_b
   status_held = status_step m x.word x.period s b.status k.settings_is k.status_is ∙ rw to6_same
 
-  held_sum : (c : ℕ) (z t : Bool) → eqb (if z then (if t then 0 else b.status.command) else c) 0 ≡ false
-      → (if z then (if t then 0 else if idle b.status then m.sum else m.sum + x.period) else 0)
-      ≡ since (if z then b.issue else count (h ▸ x)) (h ▸ x)
-  unfolding if◌then◌else◌ idle
+  held_sum : (c : ℕ) (z t : Bool) → eqb (when z then (when t then 0 else b.status.command) else c) 0 ≡ false
+      → (when z then (when t then 0 else when idle b.status then m.sum else m.sum + x.period) else 0)
+      ≡ since (when z then b.issue else count (h ▸ x)) (h ▸ x)
+  unfolding when◌then◌else◌ idle
   held_sum c false t i = sym (none_since (count (h ▸ x)) (h ▸ x) (omega arith))
   held_sum c true true i = cc
   held_sum c true false i = rw (i, one_since b.issue h x k.number, k.sum_is i)
 
   sum_held : idle (status7to10 s (status1to6 s b.status x.word up_b) x.word) ≡ false
       → (step m x.word x.period).sum
-      ≡ since (if eqb (issued s (status1to6 s b.status x.word up_b) x.word) 0 then b.issue else count (h ▸ x)) (h ▸ x)
+      ≡ since (when eqb (issued s (status1to6 s b.status x.word up_b) x.word) 0 then b.issue else count (h ▸ x)) (h ▸ x)
   unfolding idle up_m
   sum_held i =
       sum_step m x.word x.period s b.status k.settings_is k.status_is

@@ -6,7 +6,7 @@ use mathlib.Core.Bool.{Bool, true, false}
 use native.Mathlib.Nat.{mul-le-mul_right}
 use native.Mathlib.Omega.{arith}
 use borrow.Author.Tests.{leb-false}
-use Rattle.words.specs.Word.{if◌then◌else◌}
+use Rattle.words.specs.Word.{when◌then◌else◌}
 use Rattle.rules.specs.declared.Settings.{Settings}
 use Rattle.rules.specs.Record.{no_end, end_confirmed, end_displaced, end_overdue}
 use Rattle.rules.specs.Steps.{reading, confirms, displaces}
@@ -20,9 +20,9 @@ use Rattle.book.proofs.Ends.{command_lt, turn_of, goes_on, ends_of}
 -- ---- a command's fate
 
 -- it is one of four, and where it is neither confirmed nor overdue the time is not up
-fates : (x up d : Bool) (f : ℕ) → (if x then end_confirmed else if up then end_overdue else if d then end_displaced else no_end) ≡ f
+fates : (x up d : Bool) (f : ℕ) → (when x then end_confirmed else when up then end_overdue else when d then end_displaced else no_end) ≡ f
     → (f ≡ no_end) ⊎ (f ≡ end_displaced) ⊎ (f ≡ end_confirmed) ⊎ (f ≡ end_overdue)
-unfolding if◌then◌else◌
+unfolding when◌then◌else◌
 fates true up d f e = inr (inr (inl (sym e)))
 fates false true d f e = inr (inr (inr (sym e)))
 fates false false true f e = inr (inl (sym e))
@@ -33,9 +33,9 @@ pub fate_cases : (s : Settings) (c i : ℕ) (h : Log Input) (y : Input)
 unfolding fate
 fate_cases s c i h y = fates (confirms (reading s y.word) c) (is_up s i (h ▸ y)) (displaces (chosen_in s h y) c) _ refl
 
-not_up : (x up d : Bool) (f : ℕ) → (if x then end_confirmed else if up then end_overdue else if d then end_displaced else no_end) ≡ f
+not_up : (x up d : Bool) (f : ℕ) → (when x then end_confirmed else when up then end_overdue else when d then end_displaced else no_end) ≡ f
     → f ≢ end_confirmed → f ≢ end_overdue → up ≡ false
-unfolding if◌then◌else◌
+unfolding when◌then◌else◌
 not_up true up d f e a b = absurd (a (sym e))
 not_up false true d f e a b = absurd (b (sym e))
 not_up false false d f e a b = refl

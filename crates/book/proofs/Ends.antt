@@ -7,7 +7,7 @@ use native.Mathlib.Omega.{arith}
 use native.Mathlib.Decide.{ℕ_discrete}
 use lib.Dec.{eqb, ltb, lit<}
 use borrow.Author.Tests.{eqb-true, eqb-false, ne_eqb, ltb-true}
-use Rattle.words.specs.Word.{if◌then◌else◌, is_set}
+use Rattle.words.specs.Word.{when◌then◌else◌, is_set}
 use Rattle.words.proofs.Laws.{either, if_lt, set_has, and_true}
 use Rattle.rules.specs.declared.Settings.{Settings}
 use Rattle.rules.specs.declared.Status.{Status}
@@ -41,15 +41,15 @@ unfolding displaces
 displaces_lt k c h = ltb-true k c (and_true (not (eqb k 0)) (ltb k c) (and_true _ _ h).0).1
 
 -- a command that is confirmed or overdue makes room for another
-over : (c k q i n f : ℕ) (z : Bool) → f ≢ 0 → f ≢ 2 → Turn c k i n f (if z then 0 else q) (if z then f else f) (if z then i else n)
-unfolding if◌then◌else◌
+over : (c k q i n f : ℕ) (z : Bool) → f ≢ 0 → f ≢ 2 → Turn c k i n f (when z then 0 else q) (when z then f else f) (when z then i else n)
+unfolding when◌then◌else◌
 over c k q i n f true f0 f2 = record { end = refl; stay = λ p. absurd (f0 p); gone = λ p x. absurd (x refl); next = λ p. absurd (f2 p) }
 over c k q i n f false f0 f2 = record { end = refl; stay = λ p. absurd (f0 p); gone = λ p x. refl; next = λ p. absurd (f2 p) }
 
 -- one that is neither is displaced, or stays
-free : (c k q i n : ℕ) (d : Bool) → displaces k c ≡ d → q ≡ (if d then k else 0) → eqb c 0 ≡ false
-    → Turn c k i n (if d then 2 else 0) (if eqb q 0 then c else q) (if eqb q 0 then 0 else if eqb c 0 then 0 else 2) (if eqb q 0 then i else n)
-unfolding if◌then◌else◌
+free : (c k q i n : ℕ) (d : Bool) → displaces k c ≡ d → q ≡ (when d then k else 0) → eqb c 0 ≡ false
+    → Turn c k i n (when d then 2 else 0) (when eqb q 0 then c else q) (when eqb q 0 then 0 else when eqb c 0 then 0 else 2) (when eqb q 0 then i else n)
+unfolding when◌then◌else◌
 free c k q i n true hd hq live =
     rw (hq, ne_eqb k 0 (displaces_ne k c hd), live)
     (record { end = refl; stay = λ p. absurd (omega arith); gone = λ p x. refl; next = λ p. (refl, refl, displaces_ne k c hd, displaces_lt k c hd) })
@@ -59,13 +59,13 @@ free c k q i n false hd hq live =
 -- x: confirmed; up: the time is up; o: with no command under way, k is issued
 turn : (c k q i n : ℕ) (x up o : Bool) → eqb c 0 ≡ false
     → q
-    ≡ (if (if eqb (if x || not x && up then 0 else c) 0 then o else displaces k (if x || not x && up then 0 else c)) then k else 0)
-    → Turn c k i n (if x then 1 else if up then 3 else if displaces k c then 2 else 0)
-    (if eqb q 0 then (if x || not x && up then 0 else c) else q)
-    (if eqb q 0 then (if x then 1 else if not x && up then 3 else 0)
-    else if eqb (if x || not x && up then 0 else c) 0 then (if x then 1 else if not x && up then 3 else 0) else 2)
-    (if eqb q 0 then i else n)
-unfolding if◌then◌else◌
+    ≡ (when (when eqb (when x || not x && up then 0 else c) 0 then o else displaces k (when x || not x && up then 0 else c)) then k else 0)
+    → Turn c k i n (when x then 1 else when up then 3 else when displaces k c then 2 else 0)
+    (when eqb q 0 then (when x || not x && up then 0 else c) else q)
+    (when eqb q 0 then (when x then 1 else when not x && up then 3 else 0)
+    else when eqb (when x || not x && up then 0 else c) 0 then (when x then 1 else when not x && up then 3 else 0) else 2)
+    (when eqb q 0 then i else n)
+unfolding when◌then◌else◌
 turn c k q i n true up o live hq = over c k q i n 1 (eqb q 0) (omega arith) (omega arith)
 turn c k q i n false true o live hq = over c k q i n 3 (eqb q 0) (omega arith) (omega arith)
 turn c k q i n false false o live hq = free c k q i n (displaces k c) refl (rw live at hq) live
@@ -74,7 +74,7 @@ turn c k q i n false false o live hq = free c k q i n (displaces k c) refl (rw l
 
 flag4 : (v : Status) (r : Reading) (up : Bool) → v.command < 8 → overdue v r up ≡ true
     → is_set (overdue_flag v.command) (status4 v r up).flags ≡ true
-unfolding status4 flags4 with_flags with_command if◌then◌else◌ overdue_flag
+unfolding status4 flags4 with_flags with_command when◌then◌else◌ overdue_flag
 flag4 v r up l late = rw late (set_has (6 + v.command) v.flags (omega arith))
 
 flag_after : (s : Settings) (v : Status) (word : ℕ) (up : Bool) → v.command ≢ 0 → v.command < 8
@@ -99,8 +99,8 @@ command_lt s (h ▸ x) =
     rw (command_after s b.status x.word up)
     (if_lt _ (if_lt _ (lit< tt) (command_lt s h)) (issued_fits s (status1to6 s b.status x.word up) x.word))
 
-pub three : (x up d : Bool) → ◌≡◌ {A = ℕ} (if x then 1 else if up then 3 else if d then 2 else 0) 3 → (x ≡ false) × (up ≡ true)
-unfolding if◌then◌else◌
+pub three : (x up d : Bool) → ◌≡◌ {A = ℕ} (when x then 1 else when up then 3 else when d then 2 else 0) 3 → (x ≡ false) × (up ≡ true)
+unfolding when◌then◌else◌
 three true up d h = absurd (omega arith)
 three false true d h = (refl, refl)
 three false false true h = absurd (omega arith)
@@ -114,13 +114,13 @@ module _ (s : Settings) (v : Status) (word : ℕ) (up : Bool) (live : idle v ≡
   unfolding x ends_in ended status2 status1 with_flags with_positions with_command confirmed overdue idle
   ends_live = rw live
 
-  end_live : end_in s v word up ≡ (if x then 1 else if not x && up then 3 else 0)
+  end_live : end_in s v word up ≡ (when x then 1 else when not x && up then 3 else 0)
   unfolding x end_in end4 status2 status1 with_flags with_positions with_command confirmed overdue idle
   end_live = rw live
 
   issued_live : issued s (status1to6 s v word up) word
-      ≡ (if (if eqb (if x || not x && up then 0 else v.command) 0 then starts (chosen s (status1to6 s v word up) word) (status1to6 s v word up).position
-      else displaces (chosen s (status1to6 s v word up) word) (if x || not x && up then 0 else v.command))
+      ≡ (when (when eqb (when x || not x && up then 0 else v.command) 0 then starts (chosen s (status1to6 s v word up) word) (status1to6 s v word up).position
+      else displaces (chosen s (status1to6 s v word up) word) (when x || not x && up then 0 else v.command))
       then chosen s (status1to6 s v word up) word else 0)
   unfolding x issued issues status1to6 status6 status5 status4 ended with_flags with_mode with_command with_positions status2 status1 confirmed overdue idle
   issued_live = rw live
@@ -135,11 +135,11 @@ module _ (s : Settings) (v : Status) (word : ℕ) (up : Bool) (none : idle v ≡
   ends_idle = rw none
 
   end_idle : end_in s v word up ≡ no_end
-  unfolding end_in end4 status2 status1 with_flags with_positions with_command confirmed overdue idle if◌then◌else◌
+  unfolding end_in end4 status2 status1 with_flags with_positions with_command confirmed overdue idle when◌then◌else◌
   end_idle = rw none
 
-idle_go : (z t : Bool) (q i n k : ℕ) → k ≡ 0 → (if z then (if t then 0 else k) else q) ≢ 0 → (if z then i else n) ≡ n
-unfolding if◌then◌else◌
+idle_go : (z t : Bool) (q i n k : ℕ) → k ≡ 0 → (when z then (when t then 0 else k) else q) ≢ 0 → (when z then i else n) ≡ n
+unfolding when◌then◌else◌
 idle_go true true q i n k k0 ne = absurd (ne refl)
 idle_go true false q i n k k0 ne = absurd (ne k0)
 idle_go false t q i n k k0 ne = refl
@@ -185,7 +185,7 @@ module _ (s : Settings) (h : Log Input) (y : Input) where
       idle_go (eqb q 0) _ q b.issue (count (h ▸ y)) b.status.command (eqb-true _ 0 id) (rw (command_after s b.status y.word up) at ne)
 
   pub idle_end : idle (book_of s h).status ≡ true → (book_of s (h ▸ y)).status.end ≡ no_end
-  unfolding book_of book_scan book1to6 idle if◌then◌else◌
+  unfolding book_of book_scan book1to6 idle when◌then◌else◌
   idle_end id =
       let b = book_of s h in
       let up = is_up s b.issue (h ▸ y) in

@@ -4,7 +4,7 @@ use native.Mathlib.Omega.{arith}
 use mathlib.Core.Path.{◌≡◌, refl}
 use mathlib.Core.Bool.{Bool, true, false, false≢true}
 use borrow.Author.Tests.{eqb-true}
-use Rattle.words.specs.Word.{if◌then◌else◌}
+use Rattle.words.specs.Word.{when◌then◌else◌}
 use Rattle.words.proofs.Laws.{both_le}
 use Rattle.rules.specs.declared.Settings.{Settings}
 use Rattle.rules.specs.declared.Motor.{Motor}
@@ -38,10 +38,10 @@ entered m (other_table ms words period) h = absurd (false≢true h)
 entered m (other_single n word period) h = absurd (false≢true h)
 
 pub timely : (s : Settings) (es : Log Entry) → Timely (history s es)
-unfolding history if◌then◌else◌
+unfolding history when◌then◌else◌
 timely s none = tt
 timely s (es ▸ e) = go (counts (record_after s es) e) refl (timely s es)
   where
-    go : (z : Bool) → counts (record_after s es) e ≡ z → Timely (history s es) → Timely (if z then history s es ▸ input_of e else history s es)
+    go : (z : Bool) → counts (record_after s es) e ≡ z → Timely (history s es) → Timely (when z then history s es ▸ input_of e else history s es)
     go true p t = (t, entered (record_after s es) e p)
     go false p t = t

@@ -8,7 +8,7 @@ use lib.Dec.{eqb}
 use lib.ListN.{length, get_or, take, drop, set, length-take, length-set}
 use lib.Seq.{split_at, get_or-set_same, get_or-set_other}
 use borrow.Author.Tests.{eqb-true, eqb-false, eq-eqb}
-use Rattle.words.specs.Word.{if◌then◌else◌}
+use Rattle.words.specs.Word.{when◌then◌else◌}
 use Rattle.rules.specs.declared.Settings.{Settings}
 use Rattle.rules.specs.declared.Motor.{Motor}
 use Rattle.rules.specs.Record.{fresh}
@@ -36,7 +36,7 @@ any_default (x ∷ l) zero d e h = refl
 any_default (x ∷ l) (suc j) d e h = any_default l j d e (omega arith)
 
 scanned_at : (t : List Motor) (j : ℕ) (o : Order) → j < length t → get_or (scanned t o) j nobody ≡ after (get_or t j nobody) (entry_at j t o)
-unfolding scanned entry_at after if◌then◌else◌
+unfolding scanned entry_at after when◌then◌else◌
 scanned_at t j (all ws p) h =
     let m : Motor = get_or t j nobody in
     let l : length (take j t) ≡ j = length-take j t ∙ omega arith in
@@ -47,7 +47,7 @@ scanned_at t j (one i w p) h = go (eqb i j) refl
   where
     go : (b : Bool) → eqb i j ≡ b
         → get_or (set t i (one_after (get_or t i nobody) w p)) j nobody
-        ≡ after (get_or t j nobody) (if b then single w p else other_single (get_or t i nobody) w p)
+        ≡ after (get_or t j nobody) (when b then single w p else other_single (get_or t i nobody) w p)
     go true e = rw (eqb-true i j e) (get_or-set_same t j _ nobody h)
     go false e = get_or-set_other t i j _ nobody (λ x. eqb-false i j e (sym x))
 

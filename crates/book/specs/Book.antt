@@ -1,6 +1,6 @@
 -- The book of commands, kept from settings and history alone: no sums, no output. Its time is added up from the periods of the history.
 use Rattle.std.specs.Prelude.{ℕ, ◌+◌, Bool, eqb, leb, ltb}
-use Rattle.words.specs.Word.{if◌then◌else◌}
+use Rattle.words.specs.Word.{when◌then◌else◌}
 use Rattle.rules.specs.declared.Settings.{Settings}
 use Rattle.rules.specs.declared.Status.{Status}
 use Rattle.rules.specs.Record.{no_command, fresh_status}
@@ -17,7 +17,7 @@ pub record Book : Type 0 where
 -- the periods of the scans after scan i, added up
 unfoldable pub since : ℕ → Log Input → ℕ
 since i none = 0
-since i (h ▸ x) = since i h + (if ltb i (count (h ▸ x)) then x.period else 0)
+since i (h ▸ x) = since i h + (when ltb i (count (h ▸ x)) then x.period else 0)
 
 -- the monitoring time of a command issued in scan i is up with the last scan of h
 unfoldable pub is_up : Settings → ℕ → Log Input → Bool
@@ -33,7 +33,7 @@ book_scan s b h word =
     let v = book1to6 s b h word in
     record {
       status = status7to10 s v word;
-      issue = if eqb (issued s v word) no_command then b.issue else count h;
+      issue = when eqb (issued s v word) no_command then b.issue else count h;
     }
 
 -- It begins like a fresh record, and each scan in the history goes so.

@@ -1,6 +1,6 @@
 -- Demand 3: what is claimed of a list of scans, for a motor that starts fresh and that nothing but these scans writes.
 use Rattle.std.specs.Prelude.{ℕ, suc, ◌+◌, ◌*◌, ◌≤◌, max, ◌≡◌, ◌↔◌, ◌≢◌, ◌⊎◌, true, false, ◌&&◌}
-use Rattle.words.specs.Word.{if◌then◌else◌, is_set}
+use Rattle.words.specs.Word.{when◌then◌else◌, is_set}
 use Rattle.rules.specs.declared.Settings.{Settings}
 use Rattle.rules.specs.Record.{no_command, no_end, end_confirmed, end_displaced, end_overdue, flag, overdue_flag, idle}
 use Rattle.rules.specs.Steps.{reading, confirms, both_closed, chosen, displaces, step}
@@ -27,9 +27,9 @@ chosen_in s h x = chosen s (book1to6 s (book_of s h) (h ▸ x) x.word) x.word
 -- the chosen command displaces it, if step 8 lets it; otherwise nothing.
 unfoldable pub fate : Settings → ℕ → ℕ → Log Input → Input → ℕ
 fate s c i h x =
-    if confirms (reading s x.word) c then end_confirmed
-    else if is_up s i (h ▸ x) then end_overdue
-    else if displaces (chosen_in s h x) c then end_displaced
+    when confirms (reading s x.word) c then end_confirmed
+    else when is_up s i (h ▸ x) then end_overdue
+    else when displaces (chosen_in s h x) c then end_displaced
     else no_end
 
 -- none of the scans k after h did anything to the command c that the last scan of h issued

@@ -1,7 +1,7 @@
 -- Lists of scans as one motor meets them, what they make of its record, and its history. The scans are those of the contracts:
 -- `one_after`, `one_refusal`, `table_after`, `table_refusal` of rules/specs/Refusals.antt.
 use Rattle.std.specs.Prelude.{ℕ, Bool, true, false, ◌&&◌, List, ◌∷◌, ◌++◌, eqb, length, get_or}
-use Rattle.words.specs.Word.{if◌then◌else◌}
+use Rattle.words.specs.Word.{when◌then◌else◌}
 use Rattle.rules.specs.declared.Settings.{Settings}
 use Rattle.rules.specs.declared.Motor.{Motor}
 use Rattle.rules.specs.Record.{fresh}
@@ -61,7 +61,7 @@ record_after s (es ▸ e) = after (record_after s es) e
 -- A motor's history: the word and period of each accepted scan that took in this motor, numbered from 1.
 unfoldable pub history : Settings → Log Entry → Log Input
 history s none = none
-history s (es ▸ e) = if counts (record_after s es) e then history s es ▸ input_of e else history s es
+history s (es ▸ e) = when counts (record_after s es) e then history s es ▸ input_of e else history s es
 
 -- What the ten steps make of a fresh record over a history.
 unfoldable pub record_of : Settings → Log Input → Motor

@@ -1,7 +1,7 @@
 -- A whole table run through a list of scans, each of all its motors or of one: what each motor of it meets is a list of entries, so the
 -- claim is one about every motor of a real table that starts fresh.
 use Rattle.std.specs.Prelude.{ℕ, suc, ◌≡◌, List, eqb, get_or, take, drop, set}
-use Rattle.words.specs.Word.{if◌then◌else◌}
+use Rattle.words.specs.Word.{when◌then◌else◌}
 use Rattle.rules.specs.declared.Settings.{Settings}
 use Rattle.rules.specs.declared.Motor.{Motor}
 use Rattle.rules.specs.Record.{fresh}
@@ -30,7 +30,7 @@ table_run t (os ▸ o) = scanned (table_run t os) o
 -- what the motor at the place j of the table t meets
 unfoldable pub entry_at : ℕ → List Motor → Order → Entry
 entry_at j t (all words period) = table (take j t) (drop (suc j) t) words period
-entry_at j t (one i word period) = if eqb i j then single word period else other_single (get_or t i nobody) word period
+entry_at j t (one i word period) = when eqb i j then single word period else other_single (get_or t i nobody) word period
 
 unfoldable pub entries_at : ℕ → List Motor → Log Order → Log Entry
 entries_at j t none = none

@@ -8,7 +8,7 @@ use native.Mathlib.Omega.{arith}
 use lib.Dec.{eqb, ltb}
 use lib.ListN.{length, drop}
 use borrow.Author.Tests.{eq-eqb, ne_eqb, lt-ltb, le-ltb}
-use Rattle.words.specs.Word.{if◌then◌else◌}
+use Rattle.words.specs.Word.{when◌then◌else◌}
 use Rattle.rules.specs.declared.Motor.{Motor}
 use Rattle.rules.proofs.Tables.{accepted as table-in-limits}
 use Rattle.book.proofs.Periods.{period_limits}
@@ -30,28 +30,28 @@ use Rattle.dump.specs.Advance.Through.{none, accepted, refused, ended}
 module _ (t : State) (r : Request) (rs : List Request) where
   module _ (h : refusal_for t r ≡ 0) where
     pub samples_accepted : (time : ℕ) → samples_from time t (r ∷ rs) ≡ sample_of (time_after time r) (changed t r) r ++ samples_from (time_after time r) (changed t r) rs
-    unfolding samples_from if◌then◌else◌
+    unfolding samples_from when◌then◌else◌
     samples_accepted time = rw (eq-eqb (refusal_for t r) 0 h)
 
     pub before_accepted : is_scan r ≡ false → motors_before_scans t (r ∷ rs) ≡ motors_before_scans (changed t r) rs
-    unfolding motors_before_scans if◌then◌else◌
+    unfolding motors_before_scans when◌then◌else◌
     before_accepted e = rw (e, eq-eqb (refusal_for t r) 0 h)
 
   module _ (h : refusal_for t r ≡ 0 → ⊥) where
     pub samples_refused : (time : ℕ) → samples_from time t (r ∷ rs) ≡ []
-    unfolding samples_from if◌then◌else◌
+    unfolding samples_from when◌then◌else◌
     samples_refused time = rw (ne_eqb (refusal_for t r) 0 h)
 
     pub before_refused : motors_before_scans t (r ∷ rs) ≡ t.motors
-    unfolding motors_before_scans if◌then◌else◌
+    unfolding motors_before_scans when◌then◌else◌
     before_refused = go (is_scan r)
       where
-        go : (b : Bool) → (if b || not (eqb (refusal_for t r) 0) then t.motors else motors_before_scans (changed t r) rs) ≡ t.motors
+        go : (b : Bool) → (when b || not (eqb (refusal_for t r) 0) then t.motors else motors_before_scans (changed t r) rs) ≡ t.motors
         go true = refl
         go false = rw (ne_eqb (refusal_for t r) 0 h)
 
 pub before_scan : (t : State) (period : ℕ) (rs : List Request) → motors_before_scans t (S period ∷ rs) ≡ t.motors
-unfolding motors_before_scans is_scan if◌then◌else◌
+unfolding motors_before_scans is_scan when◌then◌else◌
 before_scan t period rs = refl
 
 -- ---- what an accepted request does to time, motors and scans
@@ -83,13 +83,13 @@ clock_late time Refused = omega arith
 
 -- once a scan was accepted, no motor is added
 pub once_scanned : (t : State) (rs : List Request) → 0 < t.scans → motors_before_scans t rs ≡ t.motors
-unfolding motors_before_scans is_scan refusal_for request_refusal changed with_word with_words if◌then◌else◌
+unfolding motors_before_scans is_scan refusal_for request_refusal changed with_word with_words when◌then◌else◌
 once_scanned t [] h = refl
 once_scanned t (M number ops1 ops2 w u ∷ rs) h =
     before_refused t (M number ops1 ops2 w u) rs (λ e. omega (arith, motor_first (length t.motors) t.scans number (record { ops1 = ops1; ops2 = ops2; w = w; u = u }) e, h))
 once_scanned t (I number word ∷ rs) h = go (not (eqb (refusal_for t (I number word)) 0)) (once_scanned (changed t (I number word)) rs h)
   where
-    go : (b : Bool) → motors_before_scans (changed t (I number word)) rs ≡ t.motors → (if b then t.motors else motors_before_scans (changed t (I number word)) rs) ≡ t.motors
+    go : (b : Bool) → motors_before_scans (changed t (I number word)) rs ≡ t.motors → (when b then t.motors else motors_before_scans (changed t (I number word)) rs) ≡ t.motors
     go true e = refl
     go false e = e
 once_scanned t (S period ∷ rs) h = refl
@@ -159,7 +159,7 @@ left_refused time t r rs h = rw (before_refused t r rs h, samples_refused t r rs
 
 -- header and #0 are put once
 first_once : (scans : ℕ) (ms : List Motor) → 0 < scans → first_text scans ms ≡ []
-unfolding first_text if◌then◌else◌
+unfolding first_text when◌then◌else◌
 first_once scans ms h = rw (ne_eqb scans 0 (λ e. omega arith))
 
 left_scan : (time : ℕ) (t : State) (period : ℕ) (rs : List Request) → refusal_for t (S period) ≡ 0
@@ -188,14 +188,14 @@ left_accepted next p Refused rs h = absurd (not_accepted (state_of p) Refused h 
 -- ---- what is left to put from a moment on
 
 unfoldable pub rest_from : List ℕ → Moment → List ℕ
-rest_from file p = if ltb (length file) p.at then [] else left_of p.time (state_of p) (requests_of (drop p.at file))
+rest_from file p = when ltb (length file) p.at then [] else left_of p.time (state_of p) (requests_of (drop p.at file))
 
 pub rest_past : (file : List ℕ) (p : Moment) → length file < p.at → rest_from file p ≡ []
-unfolding rest_from if◌then◌else◌
+unfolding rest_from when◌then◌else◌
 rest_past file p h = rw (lt-ltb (length file) p.at h)
 
 pub rest_from_lem : (file : List ℕ) (p : Moment) → p.at ≤ length file → rest_from file p ≡ left_of p.time (state_of p) (requests_of (drop p.at file))
-unfolding rest_from if◌then◌else◌
+unfolding rest_from when◌then◌else◌
 rest_from_lem file p h = rw (le-ltb (length file) p.at h)
 
 module _ (file : List ℕ) (p : Moment) where

@@ -7,7 +7,7 @@ use native.Mathlib.Omega.{arith}
 use lib.Dec.{eqb, leb}
 use lib.ListN.{length, length-map}
 use borrow.Author.Tests.{eq-eqb, ne_eqb, eqb-true, eqb-false, le-leb, lt-leb, leb-true, leb-false}
-use Rattle.words.specs.Word.{if◌then◌else◌}
+use Rattle.words.specs.Word.{when◌then◌else◌}
 use Rattle.rules.specs.Scans.{Input}
 use Rattle.rules.proofs.Tables.{accepted as table-in-limits}
 use Rattle.book.specs.Log.{Log, none, ◌▸◌}
@@ -33,7 +33,7 @@ Summed time (g ∷ hs) = (total g.scans ≡ time) × Summed time hs
 
 -- at that time or later they are there whole
 whole : (at : ℕ) (scans : Log Input) → total scans ≤ at → up_to at scans ≡ scans
-unfolding up_to if◌then◌else◌
+unfolding up_to when◌then◌else◌
 whole at none l = refl
 whole at (scans ▸ x) l = rw (le-leb (total (scans ▸ x)) at l)
 
@@ -45,7 +45,7 @@ all_whole at time (g ∷ hs) s l = rw (whole at g.scans (omega (arith, s.0)), al
 -- a scan later than the time asked for is not seen
 all_earlier : (at time : ℕ) (hs : List History) (words : List ℕ) (period : ℕ) → Summed time hs → at < time + period
     → map (record_at at) (entered hs words period) ≡ map (record_at at) hs
-unfolding entered record_at up_to total if◌then◌else◌
+unfolding entered record_at up_to total when◌then◌else◌
 all_earlier at time [] words period s l = refl
 all_earlier at time (g ∷ hs) [] period s l = refl
 all_earlier at time (g ∷ hs) (word ∷ words) period s l =
@@ -81,12 +81,12 @@ module _ (hs : List History) (t : State) (time period : ℕ) (k : Standing hs t 
       }
 
   -- what a reader takes at a time for the signals: those after this scan, if it is not later
-  scan_seen : (at : ℕ) → (if leb (time + period) at then signals_of (changed t (S period)).motors else signals_of (map (record_at at) hs))
+  scan_seen : (at : ℕ) → (when leb (time + period) at then signals_of (changed t (S period)).motors else signals_of (map (record_at at) hs))
       ≡ signals_of (map (record_at at) (histories_after hs t (S period)))
-  unfolding histories_after if◌then◌else◌
+  unfolding histories_after when◌then◌else◌
   scan_seen at = go (leb (time + period) at) refl
     where
-      go : (b : Bool) → leb (time + period) at ≡ b → (if b then signals_of (changed t (S period)).motors else signals_of (map (record_at at) hs))
+      go : (b : Bool) → leb (time + period) at ≡ b → (when b then signals_of (changed t (S period)).motors else signals_of (map (record_at at) hs))
           ≡ signals_of (map (record_at at) (entered hs t.words period))
       go true e = ap signals_of (scan_stands.motors ∙ sym (all_whole at (time + period) (entered hs t.words period) scan_stands.sums (leb-true _ _ e)))
       go false e = ap signals_of (sym (all_earlier at time hs t.words period k.sums (leb-false _ _ e)))
@@ -94,12 +94,12 @@ module _ (hs : List History) (t : State) (time period : ℕ) (k : Standing hs t 
 -- ---- the outputs at a time, after some histories and the requests that are accepted
 
 accepted_first : (t : State) (r : Request) (rs : List Request) → refusal_for t r ≡ 0 → accepted_from t (r ∷ rs) ≡ r ∷ accepted_from (changed t r) rs
-unfolding accepted_from if◌then◌else◌
+unfolding accepted_from when◌then◌else◌
 accepted_first t r rs h = rw (eq-eqb (refusal_for t r) 0 h)
 
 histories_first : (hs : List History) (t : State) (r : Request) (rs : List Request) → refusal_for t r ≡ 0
     → histories_from hs t (r ∷ rs) ≡ histories_from (histories_after hs t r) (changed t r) rs
-unfolding histories_from if◌then◌else◌
+unfolding histories_from when◌then◌else◌
 histories_first hs t r rs h = rw (eq-eqb (refusal_for t r) 0 h, is-changed t r h)
 
 module _ (at : ℕ) where
@@ -115,7 +115,7 @@ module _ (at : ℕ) where
 
   outputs_refused : (hs : List History) (t : State) (r : Request) (rs : List Request) → (refusal_for t r ≡ 0 → ⊥)
       → outputs_from hs t (r ∷ rs) ≡ signals_of (map (record_at at) hs)
-  unfolding outputs_from accepted_from histories_from if◌then◌else◌
+  unfolding outputs_from accepted_from histories_from when◌then◌else◌
   outputs_refused hs t r rs h = rw (ne_eqb (refusal_for t r) 0 h)
 
   -- the first of some requests, a scan
@@ -129,7 +129,7 @@ module _ (at : ℕ) where
       let u = changed t (S period) in
       let ss = samples_from (time + period) u rs in
       ap (λ (l : List Sample). signals_at before l at) (samples_accepted t (S period) rs h time)
-      ∙ ap (λ (vs : List Bool). signals_at (if leb (time + period) at then signals_of u.motors else vs) ss at) e
+      ∙ ap (λ (vs : List Bool). signals_at (when leb (time + period) at then signals_of u.motors else vs) ss at) e
       ∙ ap (λ (vs : List Bool). signals_at vs ss at) (scan_seen hs t time period k h at)
       ∙ later
       ∙ sym (outputs_accepted hs t (S period) rs h)

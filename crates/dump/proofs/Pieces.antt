@@ -8,7 +8,7 @@ use native.Mathlib.Omega.{arith}
 use lib.Dec.{ltb}
 use lib.ListN.{length, take}
 use borrow.Author.Tests.{ltb-true, ltb-false, lt-ltb, le-ltb}
-use Rattle.words.specs.Word.{if◌then◌else◌}
+use Rattle.words.specs.Word.{when◌then◌else◌}
 use Rattle.report.proofs.PutLaws.{front}
 use Rattle.interpreter.specs.State.{empty_state, too_long}
 use Rattle.vcd.specs.Text.{recording_text}
@@ -40,7 +40,7 @@ calls_rest few e (one_buffer h m f c) =
 
 -- in a file that is too long no call is made
 pub dump_long : (file : List ℕ) → 65536 < length file → dump_of file ≡ []
-unfolding dump_of too_long if◌then◌else◌
+unfolding dump_of too_long when◌then◌else◌
 dump_long file h = rw (lt-ltb 65536 (length file) h)
 
 no_calls : {file : List ℕ} {s : Recording} {ps : List (List ℕ)} → length file < s.at → Calls file s ps → [] ≡ together ps
@@ -49,14 +49,14 @@ no_calls h (ended l) = refl
 no_calls h (one_buffer l m f c) = absurd (omega arith)
 
 dump_rest : (file : List ℕ) → length file ≤ 65536 → dump_of file ≡ rest_from file (moment 0 empty_state 0)
-unfolding dump_of requests_dump recording_text left_of first_text opening empty_state too_long if◌then◌else◌
+unfolding dump_of requests_dump recording_text left_of first_text opening empty_state too_long when◌then◌else◌
 dump_rest file h = rw (le-ltb 65536 (length file) h, rest_from_lem file (moment 0 empty_state 0) (omega arith))
 
 pub calls_dump : {file : List ℕ} {r : Recording} {ps : List (List ℕ)} → Begin file r → Calls file r ps → dump_of file ≡ together ps
-unfolding too_long if◌then◌else◌
+unfolding too_long when◌then◌else◌
 calls_dump {file} {r} {ps} b c = go (ltb 65536 (length file)) refl b.at
   where
-    go : (z : Bool) → ltb 65536 (length file) ≡ z → r.at ≡ (if z then length file + 1 else 0) → dump_of file ≡ together ps
+    go : (z : Bool) → ltb 65536 (length file) ≡ z → r.at ≡ (when z then length file + 1 else 0) → dump_of file ≡ together ps
     go true e f = dump_long file (ltb-true 65536 (length file) e) ∙ no_calls (omega (arith, f)) c
     go false e f =
         let few = ltb-false 65536 (length file) e in

@@ -8,7 +8,7 @@ use native.Mathlib.Omega.{arith}
 use lib.Dec.{eqb}
 use lib.ListN.{length, length-map}
 use borrow.Author.Tests.{eqb-true, eqb-false, le-ltb, ltb-false}
-use Rattle.words.specs.Word.{if◌then◌else◌}
+use Rattle.words.specs.Word.{when◌then◌else◌}
 use Rattle.rules.specs.declared.Motor.{Motor}
 use Rattle.rules.proofs.Tables.{length_after, accepted as table-in-limits}
 use Rattle.book.proofs.Periods.{period_limits}
@@ -52,7 +52,7 @@ one_between last time t (S period) ss h l b =
 one_between last time t Refused ss h l b = b
 
 samples_between : (last time : ℕ) (t : State) (rs : List Request) → time + 10000 * length rs ≤ last → Between time last (samples_from time t rs)
-unfolding samples_from if◌then◌else◌
+unfolding samples_from when◌then◌else◌
 samples_between last time t [] h = tt
 samples_between last time t (r ∷ rs) h = go (eqb (refusal_for t r) 0) refl (samples_between last (time_after time r) (changed t r) rs)
   where
@@ -60,7 +60,7 @@ samples_between last time t (r ∷ rs) h = go (eqb (refusal_for t r) 0) refl (sa
     later = samples_from (time_after time r) (changed t r) rs
 
     go : (b : Bool) → eqb (refusal_for t r) 0 ≡ b → (time_after time r + 10000 * length rs ≤ last → Between (time_after time r) last later)
-        → Between time last (if b then sample_of (time_after time r) (changed t r) r ++ later else [])
+        → Between time last (when b then sample_of (time_after time r) (changed t r) r ++ later else [])
     go true e k =
         let l = (time_goes time t r (eqb-true _ _ e)).1 in
         one_between last time t r later (eqb-true _ _ e) (omega arith) (k (omega arith))
@@ -134,7 +134,7 @@ as_many file =
     )
 
 dump_is : (file : List ℕ) → length file ≤ 65536 → dump_of file ≡ recording_text (length (motors_of file)) (signals_of (motors_of file)) (samples_of file)
-unfolding dump_of requests_dump motors_of samples_of too_long if◌then◌else◌
+unfolding dump_of requests_dump motors_of samples_of too_long when◌then◌else◌
 dump_is file h = rw (le-ltb 65536 (length file) h)
 
 pub reads_back : (file : List ℕ) → length file ≤ 65536 → ReadsBack file
@@ -151,5 +151,5 @@ reads_back file h =
 
 -- The claim holds of any file.
 pub claimed : (file : List ℕ) → DumpClaim file
-unfolding dump_of too_long if◌then◌else◌
+unfolding dump_of too_long when◌then◌else◌
 claimed file = record { long = λ e. rw e; read = λ e. reads_back file (ltb-false 65536 (length file) e) }

@@ -8,7 +8,7 @@ use native.Mathlib.Numerals.{add-one}
 use lib.Dec.{eqb}
 use lib.ListN.{length, take, set, get_or, length-append, length-map, get_or-map}
 use lib.Seq.{take-suc, take-suc-set, take_all, length-take-le}
-use Rattle.words.specs.Word.{if◌then◌else◌}
+use Rattle.words.specs.Word.{when◌then◌else◌}
 use Rattle.words.proofs.Laws.{either}
 use Rattle.rules.specs.declared.Motor.{Motor}
 use Rattle.rules.specs.Record.{output_on, output_off}
@@ -94,10 +94,10 @@ tells_both l m false b h k = rw h (alone b k)
     alone false g = g
 
 tells_change : (code : List ℕ) (v w : Bool) → Tells (change_line code v w) (differs v w)
-unfolding change_line value_line word_line joined if◌then◌else◌
+unfolding change_line value_line word_line joined when◌then◌else◌
 tells_change code v w = go (differs v w)
   where
-    go : (b : Bool) → Tells (if b then value_line code w else []) b
+    go : (b : Bool) → Tells (when b then value_line code w else []) b
     go true = no_cons
     go false = refl
 

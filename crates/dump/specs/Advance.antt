@@ -1,6 +1,6 @@
 -- What a call that takes the next lines of a file does: it puts what they add to the dump into the lent buffer.
 use Rattle.std.specs.Prelude.{ℕ, ◌+◌, ◌<◌, ◌≤◌, ◌≡◌, List, [], ◌++◌, eqb, length, take}
-use Rattle.words.specs.Word.{if◌then◌else◌}
+use Rattle.words.specs.Word.{when◌then◌else◌}
 use Rattle.rules.specs.declared.Motor.{Motor}
 use Rattle.sheet.specs.Grammar.{next_at}
 use Rattle.sheet.specs.declared.Request.{Request}
@@ -53,7 +53,7 @@ moment_after next p r = moment next (changed (state_of p) r) (clock_after p.time
 
 -- Header and #0, before the first scan or where the dump ends without one
 unfoldable pub first_text : ℕ → List Motor → List ℕ
-first_text scans ms = if eqb scans 0 then opening ms else []
+first_text scans ms = when eqb scans 0 then opening ms else []
 
 -- What an accepted line adds: a scan its time and the changed signals, and before them, if it is the first, header and #0
 unfoldable pub scan_text : ℕ → ℕ → List Motor → List Motor → List ℕ
@@ -119,7 +119,7 @@ pub record Room (out : List ℕ) (to last : ℕ) : Type 0 where
 
 -- What `begin` answers: an empty bench before the first line, or past the end of a file that is too long, of which there is no dump.
 pub record Begin (file : List ℕ) (r : Recording) : Type 0 where
-  pub at : r.at ≡ (if too_long (length file) then length file + 1 else 0)
+  pub at : r.at ≡ (when too_long (length file) then length file + 1 else 0)
   pub moment_is : moment_of r ≡ moment r.at empty_state 0
 
 -- What `fill` does: it takes lines, or the end of the file, at least one where the buffer has room for what that may add. What they add stands

@@ -1,7 +1,7 @@
 -- What is claimed of the dump of a file: change request 5, "Read back, the dump gives at every time the outputs after the last scan not later than
 -- it." A reader (vcd/specs/Reader.antt) reads the dump; the outputs are those of the motors' histories, which the file alone makes.
 use Rattle.std.specs.Prelude.{ℕ, ◌≡◌, Bool, true, false, List, [], ◌∷◌, map, leb, length}
-use Rattle.words.specs.Word.{if◌then◌else◌}
+use Rattle.words.specs.Word.{when◌then◌else◌}
 use Rattle.rules.specs.declared.Motor.{Motor}
 use Rattle.rules.specs.Scans.{Input}
 use Rattle.book.specs.Log.{Log, none, ◌▸◌}
@@ -22,7 +22,7 @@ histories_in file = histories_of (accepted_from empty_state (requests_of file))
 -- The scans of a history that are not later than a time: the time of a scan is the sum of the periods up to and with it
 unfoldable pub up_to : ℕ → Log Input → Log Input
 up_to time none = none
-up_to time (scans ▸ x) = if leb (total (scans ▸ x)) time then scans ▸ x else up_to time scans
+up_to time (scans ▸ x) = when leb (total (scans ▸ x)) time then scans ▸ x else up_to time scans
 
 -- A motor's record after the last of these: what the ten steps make of a fresh one over them
 unfoldable pub record_at : ℕ → History → Motor

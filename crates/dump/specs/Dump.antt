@@ -1,6 +1,6 @@
 -- The dump of a whole file, which is the meaning of the waveform program: change request 5.
 use Rattle.std.specs.Prelude.{ℕ, ◌+◌, Bool, true, false, not, ◌||◌, List, [], ◌∷◌, ◌++◌, map, eqb, length}
-use Rattle.words.specs.Word.{if◌then◌else◌}
+use Rattle.words.specs.Word.{when◌then◌else◌}
 use Rattle.rules.specs.declared.Motor.{Motor}
 use Rattle.rules.specs.Record.{output_on, output_off}
 use Rattle.sheet.specs.declared.Request.{Request}
@@ -42,7 +42,7 @@ sample_of time t Refused = []
 unfoldable pub samples_from : ℕ → State → List Request → List Sample
 samples_from time t [] = []
 samples_from time t (r ∷ rs) =
-    if eqb (refusal_for t r) 0 then sample_of (time_after time r) (changed t r) r ++ samples_from (time_after time r) (changed t r) rs else []
+    when eqb (refusal_for t r) 0 then sample_of (time_after time r) (changed t r) r ++ samples_from (time_after time r) (changed t r) rs else []
 
 -- The motors of which header and #0 speak: those "before the first scan, or at the end, also one at a refused line, if none runs"
 unfoldable pub is_scan : Request → Bool
@@ -53,7 +53,7 @@ is_scan Refused = false
 
 unfoldable pub motors_before_scans : State → List Request → List Motor
 motors_before_scans t [] = t.motors
-motors_before_scans t (r ∷ rs) = if is_scan r || not (eqb (refusal_for t r) 0) then t.motors else motors_before_scans (changed t r) rs
+motors_before_scans t (r ∷ rs) = when is_scan r || not (eqb (refusal_for t r) 0) then t.motors else motors_before_scans (changed t r) rs
 
 -- Header and #0 for some motors
 unfoldable pub opening : List Motor → List ℕ
@@ -67,4 +67,4 @@ requests_dump rs =
 
 -- The whole dump; "over 65,536 bytes there is none"
 unfoldable pub dump_of : List ℕ → List ℕ
-dump_of file = if too_long (length file) then [] else requests_dump (requests_of file)
+dump_of file = when too_long (length file) then [] else requests_dump (requests_of file)

@@ -10,7 +10,7 @@ use lib.Dec.{leb, ltb, lit<}
 use lib.ListN.{length, take, set, get_or, length-take}
 use lib.Seq.{take-suc-set, take-set-lt, get_or-take, length-take-le}
 use borrow.Author.Tests.{eq-eqb, ne_eqb, leb-false, ltb-false, le-ltb, not-false}
-use Rattle.words.specs.Word.{if◌then◌else◌}
+use Rattle.words.specs.Word.{when◌then◌else◌}
 use Rattle.rules.specs.declared.Motor.{Motor}
 use Rattle.rules.specs.declared.Settings.{Settings}
 use Rattle.rules.specs.Record.{fresh}
@@ -32,11 +32,11 @@ use Rattle.interpreter.specs.declared.Bench.{Bench}
 -- ---- an accepted request changes the state, a refused one does not
 
 pub accepted : (t : State) (r : Request) → refusal_for t r ≡ 0 → state_after t r ≡ changed t r
-unfolding state_after if◌then◌else◌
+unfolding state_after when◌then◌else◌
 accepted t r h = rw (eq-eqb (refusal_for t r) 0 h)
 
 pub refused : (t : State) (r : Request) → (refusal_for t r ≡ 0 → ⊥) → state_after t r ≡ t
-unfolding state_after if◌then◌else◌
+unfolding state_after when◌then◌else◌
 refused t r h = rw (ne_eqb (refusal_for t r) 0 h)
 
 -- a line that makes no request is refused
@@ -125,7 +125,7 @@ module _ (b : Bench) (is : length b.motors ≡ 32) (js : length b.words ≡ 32) 
   word_state number word h l = rw (take-set-lt b.count b.words (number - 1) word (omega arith))
 
   pub scan_refusal_lem : (period : ℕ) → part_refusal b.motors (min b.count most_motors) b.words period ≡ refusal_for (view_of b) (S period)
-  unfolding refusal_for scan_refusal part_refusal most_motors if◌then◌else◌
+  unfolding refusal_for scan_refusal part_refusal most_motors when◌then◌else◌
   scan_refusal_lem period = rw (le-ltb 32 (min b.count 32) (omega arith), ← take_used b.count b.motors is, ← take_used b.count b.words js)
 
   -- the motors after a scan of those in use

@@ -11,7 +11,7 @@ use lib.Dec.{eqb}
 use lib.ListN.{length, get_or, length-map, length-append, get_or-map, get_or-append}
 use lib.Seq.{get_or-append_seam}
 use borrow.Author.Tests.{eqb-true}
-use Rattle.words.specs.Word.{if◌then◌else◌}
+use Rattle.words.specs.Word.{when◌then◌else◌}
 use Rattle.rules.specs.Refusals.{table_after}
 use Rattle.rules.specs.declared.Motor.{Motor}
 use Rattle.rules.specs.Record.{fresh}
@@ -39,7 +39,7 @@ ordered os t Refused = os
 
 unfoldable pub orders_from : Log Order → State → List Request → Log Order
 orders_from os t [] = os
-orders_from os t (r ∷ rs) = orders_from (if eqb (refusal_for t r) 0 then ordered os t r else os) (state_after t r) rs
+orders_from os t (r ∷ rs) = orders_from (when eqb (refusal_for t r) 0 then ordered os t r else os) (state_after t r) rs
 
 -- ---- the motors of some histories, fresh; and one scan more of them
 
@@ -121,11 +121,11 @@ run_on Refused h a = a
 
 run_through : (t : State) (rs : List Request) {hs : List History} {os : Log Order} → Run t hs os
     → Run (states_after t rs) (histories_from hs t rs) (orders_from os t rs)
-unfolding states_after state_after histories_from orders_from if◌then◌else◌
+unfolding states_after state_after histories_from orders_from when◌then◌else◌
 run_through t [] a = a
 run_through t (r ∷ rs) {hs} {os} a = run_through (state_after t r) rs (one (eqb (refusal_for t r) 0) refl)
   where
-    one : (b : Bool) → eqb (refusal_for t r) 0 ≡ b → Run (if b then changed t r else t) (if b then histories_after hs t r else hs) (if b then ordered os t r else os)
+    one : (b : Bool) → eqb (refusal_for t r) 0 ≡ b → Run (when b then changed t r else t) (when b then histories_after hs t r else hs) (when b then ordered os t r else os)
     one true e = run_on r (eqb-true _ _ e) a
     one false e = a
 

@@ -8,7 +8,7 @@ use native.Mathlib.Omega.{arith}
 use lib.Dec.{eqb, lit<}
 use lib.ListN.{length, set, length-append, length-set}
 use borrow.Author.Tests.{eqb-true, eq-eqb, le-ltb, not-false}
-use Rattle.words.specs.Word.{if◌then◌else◌}
+use Rattle.words.specs.Word.{when◌then◌else◌}
 use Rattle.rules.specs.declared.Motor.{Motor}
 use Rattle.rules.specs.declared.Settings.{Settings}
 use Rattle.rules.specs.Record.{fresh}
@@ -118,10 +118,10 @@ sound_changed t (S period) h e = sound_scan t period h
 sound_changed t Refused h e = h
 
 pub sound_after : (t : State) (r : Request) → Sound t → Sound (state_after t r)
-unfolding state_after if◌then◌else◌
+unfolding state_after when◌then◌else◌
 sound_after t r h = go (eqb (refusal_for t r) 0) refl
   where
-    go : (b : Bool) → eqb (refusal_for t r) 0 ≡ b → Sound (if b then changed t r else t)
+    go : (b : Bool) → eqb (refusal_for t r) 0 ≡ b → Sound (when b then changed t r else t)
     go true e = sound_changed t r h (eqb-true _ _ e)
     go false e = h
 
@@ -132,16 +132,16 @@ sound_through t (r ∷ rs) h = sound_through (state_after t r) rs (sound_after t
 
 -- ---- so that only the period is left to refuse
 
-scan_by_period : (t : State) (period : ℕ) → Sound t → scan_refusal t period ≡ (if period_ok period then 0 else 2)
-unfolding scan_refusal table_refusal misfit if◌then◌else◌
+scan_by_period : (t : State) (period : ℕ) → Sound t → scan_refusal t period ≡ (when period_ok period then 0 else 2)
+unfolding scan_refusal table_refusal misfit when◌then◌else◌
 scan_by_period t period h =
     rw (eq-eqb (length t.motors) (length t.words) h.lengths, le-ltb most_motors (length t.motors) h.room, h.records, h.words) (go (period_ok period))
   where
-    go : (b : Bool) → ◌≡◌ {A = ℕ} (if not b then 2 else 0) (if b then 0 else 2)
+    go : (b : Bool) → ◌≡◌ {A = ℕ} (when not b then 2 else 0) (when b then 0 else 2)
     go true = refl
     go false = refl
 
 -- S is refused by 2, exactly where the period is outside 1 to 10,000, or not at all
-pub scan_refused_by_2 : (rs : List Request) (period : ℕ) → refusal_for (states_after empty_state rs) (S period) ≡ (if period_ok period then 0 else 2)
+pub scan_refused_by_2 : (rs : List Request) (period : ℕ) → refusal_for (states_after empty_state rs) (S period) ≡ (when period_ok period then 0 else 2)
 unfolding refusal_for
 scan_refused_by_2 rs period = scan_by_period (states_after empty_state rs) period (sound_through empty_state rs sound_empty)

@@ -8,7 +8,7 @@ use native.Mathlib.Omega.{arith}
 use lib.ListN.{length, get_or, take}
 use lib.Seq.{get_or-take, length-take-le}
 use borrow.Author.Tests.{leb-true, eq-eqb, le-ltb}
-use Rattle.words.specs.Word.{if◌then◌else◌}
+use Rattle.words.specs.Word.{when◌then◌else◌}
 use Rattle.rules.specs.declared.Motor.{Motor}
 use Rattle.rules.specs.Record.{with_status}
 use Rattle.rules.specs.Steps.{reading, step}
@@ -46,7 +46,7 @@ module _ (motors : List Motor) (words : List ℕ) (held : ℕ) (few : held ≤ m
 
     -- and so is the table of them
     pub all_due : part_refusal motors held words period ≡ 0
-    unfolding part_refusal table_refusal misfit if◌then◌else◌
+    unfolding part_refusal table_refusal misfit when◌then◌else◌
     all_due =
         let a = length-take-le held motors (in_array held motors is few) in
         let b = length-take-le held words (in_array held words js few) in

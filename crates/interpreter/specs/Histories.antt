@@ -2,7 +2,7 @@
 -- a file make them. A scan of a file takes in every motor, each with the word that it holds then. proofs/Followed.antt shows that these are the
 -- histories of demand 3.
 use Rattle.std.specs.Prelude.{ℕ, List, [], ◌∷◌, ◌++◌, eqb}
-use Rattle.words.specs.Word.{if◌then◌else◌}
+use Rattle.words.specs.Word.{when◌then◌else◌}
 use Rattle.rules.specs.declared.Settings.{Settings}
 use Rattle.rules.specs.Scans.{Input}
 use Rattle.book.specs.Log.{Log, none, ◌▸◌}
@@ -32,7 +32,7 @@ histories_after hs t Refused = hs
 -- after the requests of some lines; a refused line adds nothing
 unfoldable pub histories_from : List History → State → List Request → List History
 histories_from hs t [] = hs
-histories_from hs t (r ∷ rs) = histories_from (if eqb (refusal_for t r) 0 then histories_after hs t r else hs) (state_after t r) rs
+histories_from hs t (r ∷ rs) = histories_from (when eqb (refusal_for t r) 0 then histories_after hs t r else hs) (state_after t r) rs
 
 unfoldable pub histories_of : List Request → List History
 histories_of rs = histories_from [] empty_state rs

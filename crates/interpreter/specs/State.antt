@@ -1,7 +1,7 @@
 -- The state of a bench, and what the request of a line does to it: the paper's "The bench program's file", and its "Order" for M, I and S.
 -- A refused line leaves the state as it was; 0 is an accepted line.
 use Rattle.std.specs.Prelude.{ℕ, ◌+◌, ◌-◌, min, Bool, true, not, ◌&&◌, List, [], ◌∷◌, ◌++◌, eqb, leb, ltb, length, take, set}
-use Rattle.words.specs.Word.{if◌then◌else◌}
+use Rattle.words.specs.Word.{when◌then◌else◌}
 use Rattle.rules.specs.declared.Settings.{Settings}
 use Rattle.rules.specs.declared.Motor.{Motor}
 use Rattle.rules.specs.Record.{fresh}
@@ -31,10 +31,10 @@ next_number n = min (n + 1) 4294967295
 -- `M,number,OPS_1,OPS_2,W,U`: 4, 8, 7, 9. `held` motors are there, `scans` scans were accepted.
 unfoldable pub motor_refusal : ℕ → ℕ → ℕ → Settings → ℕ
 motor_refusal held scans number s =
-    if not (settings_in_range s) then 4
-    else if ltb 0 scans then 8
-    else if leb most_motors held then 7
-    else if not (eqb number (held + 1)) then 9
+    when not (settings_in_range s) then 4
+    else when ltb 0 scans then 8
+    else when leb most_motors held then 7
+    else when not (eqb number (held + 1)) then 9
     else 0
 
 -- It "adds a motor", a fresh one; the word that it holds is 0 before the first I.
@@ -52,7 +52,7 @@ unfoldable pub is_there : ℕ → ℕ → Bool
 is_there held number = leb 1 number && leb number held
 
 unfoldable pub input_refusal : ℕ → ℕ → ℕ → ℕ
-input_refusal held number word = if not (is_there held number) then 10 else if not (word_ok word) then 3 else 0
+input_refusal held number word = when not (is_there held number) then 10 else when not (word_ok word) then 3 else 0
 
 -- It "sets the word it holds from then on".
 unfoldable pub with_words : State → List ℕ → State
@@ -90,7 +90,7 @@ changed t (S period) = with_scan t period
 changed t Refused = t
 
 unfoldable pub state_after : State → Request → State
-state_after t r = if eqb (refusal_for t r) 0 then changed t r else t
+state_after t r = when eqb (refusal_for t r) 0 then changed t r else t
 
 unfoldable pub states_after : State → List Request → State
 states_after t [] = t
@@ -99,7 +99,7 @@ states_after t (r ∷ rs) = states_after (state_after t r) rs
 -- The requests up to the first that is refused
 unfoldable pub accepted_from : State → List Request → List Request
 accepted_from t [] = []
-accepted_from t (r ∷ rs) = if eqb (refusal_for t r) 0 then r ∷ accepted_from (changed t r) rs else []
+accepted_from t (r ∷ rs) = when eqb (refusal_for t r) 0 then r ∷ accepted_from (changed t r) rs else []
 
 -- Each request is accepted, in the state that those before it leave
 unfoldable pub all_accepted : State → List Request → Bool

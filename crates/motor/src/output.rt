@@ -1,6 +1,6 @@
 // The output: what drops it, and what raises it.
 ghost use Rattle.std.specs.Prelude.{◌≡◌};
-ghost use Rattle.words.specs.Word.{if◌then◌else◌};
+ghost use Rattle.words.specs.Word.{when◌then◌else◌};
 ghost use Rattle.rules.specs.Record.{own_output, opposite_output, dropped};
 ghost use Rattle.rules.specs.Steps.{running, time_up, pulse_over, drops, raises, raised, without_opposite, output9};
 
@@ -11,7 +11,7 @@ use words::{choose, has};
 
 // One of two outputs: a if the test holds.
 pub fn choose_output(test: bool, a: Output, b: Output) -> Output
-    ensures { result ≡ (if test then a else b) }
+    ensures { result ≡ (when test then a else b) }
 {
     if test { a } else { b }
 }

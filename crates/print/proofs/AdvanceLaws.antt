@@ -8,7 +8,7 @@ use lib.Dec.{leb}
 use lib.ListN.{length, take, set, length-append}
 use lib.Seq.{take-set-lt}
 use borrow.Author.Tests.{leb-false}
-use Rattle.words.specs.Word.{if◌then◌else◌}
+use Rattle.words.specs.Word.{when◌then◌else◌}
 use Rattle.rules.specs.Refusals.{most_motors, part_refusal, part_after}
 use Rattle.rules.specs.declared.Motor.{Motor}
 use Rattle.words.proofs.Laws.{both_le}
@@ -47,11 +47,11 @@ standing bench at line to = record { sitting = record { bench = bench; at = at; 
 module _ {file : List ℕ} {b : Bench} {to : ℕ} {out : List ℕ} where
   pub begun_long : {after : List ℕ} {n : ℕ} → view_of b ≡ empty_state → too_long (length file) ≡ true → Put out to (refusal_of 0 1) after n
       → Begin file out to after (standing b (length file + 1) 1 n)
-  unfolding opening if◌then◌else◌
+  unfolding opening when◌then◌else◌
   begun_long e h p = record { put = rw h p; at = rw h refl; state = e; line = refl }
 
   pub begun : view_of b ≡ empty_state → too_long (length file) ≡ false → Begin file out to out (standing b 0 1 to)
-  unfolding opening if◌then◌else◌
+  unfolding opening when◌then◌else◌
   begun e h = record { put = rw h put_none; at = rw h refl; state = e; line = refl }
 
 module _ {file : List ℕ} {s : Sitting} {to : ℕ} {out : List ℕ} where

@@ -7,7 +7,7 @@ use mathlib.Core.List.{List, [], ◌∷◌, ◌++◌, map}
 use lib.Dec.{eqb}
 use lib.ListN.{length}
 use borrow.Author.Tests.{eqb-true, eqb-false}
-use Rattle.words.specs.Word.{if◌then◌else◌}
+use Rattle.words.specs.Word.{when◌then◌else◌}
 use Rattle.words.proofs.Laws.{and_true, either}
 use Rattle.sheet.specs.Lines.{Text, lines_of}
 use Rattle.sheet.specs.Grammar.{text_request, requests_of}
@@ -27,7 +27,7 @@ use Rattle.print.proofs.PrintLaws.{from_accepted, from_refused}
 module _ (end before : List ℕ) where
   print_same : (ls : List Text) (t : State) (k : ℕ) → no0x_from t ls ≡ true → (map text_request ls ≡ map decimal_text ls → end ≡ before)
       → print_from end (map text_request ls) t k ≡ print_from before (map decimal_text ls) t k
-  unfolding no0x_from print_from if◌then◌else◌
+  unfolding no0x_from print_from when◌then◌else◌
   print_same [] t k h f = f refl
   print_same (l ∷ ls) t k h f =
       go (text_has0x l) refl (eqb (refusal_for t (decimal_text l)) 0) refl h (print_same ls (changed t (decimal_text l)) (next_number k))
@@ -39,7 +39,7 @@ module _ (end before : List ℕ) where
       same : text_has0x l ≡ false → (rs : List Request) → print_from end (text_request l ∷ rs) t k ≡ print_from end (r ∷ rs) t k
       same e rs = ap (λ (q : Request). print_from end (q ∷ rs) t k) (same_text l e)
 
-      go : (x : Bool) → text_has0x l ≡ x → (y : Bool) → eqb (refusal_for t r) 0 ≡ y → (if x then false else if y then no0x_from (changed t r) ls else true) ≡ true
+      go : (x : Bool) → text_has0x l ≡ x → (y : Bool) → eqb (refusal_for t r) 0 ≡ y → (when x then false else when y then no0x_from (changed t r) ls else true) ≡ true
           → (no0x_from (changed t r) ls ≡ true → (map text_request ls ≡ map decimal_text ls → end ≡ before)
           → print_from end (map text_request ls) (changed t r) (next_number k) ≡ print_from before (map decimal_text ls) (changed t r) (next_number k))
           → print_from end (text_request l ∷ map text_request ls) t k ≡ print_from before (r ∷ map decimal_text ls) t k
@@ -56,18 +56,18 @@ module _ (end before : List ℕ) where
 
 -- A file prints what it prints if words are decimal alone, unless a line that is read then has a word field that begins with 0x.
 pub prints_as_before : (file : List ℕ) → no0x_read file ≡ true → print_of file ≡ decimal_print file
-unfolding print_of decimal_print requests_print requests_of decimal_requests no0x_read if◌then◌else◌
+unfolding print_of decimal_print requests_print requests_of decimal_requests no0x_read when◌then◌else◌
 prints_as_before file h = go (too_long (length file)) h
   where
-    go : (t : Bool) → (if t then true else no0x_from empty_state (lines_of file)) ≡ true
-        → (if t then refusal_of 0 1 else requests_print (requests_of file)) ≡ (if t then refusal_of 0 1 else requests_print (decimal_requests file))
+    go : (t : Bool) → (when t then true else no0x_from empty_state (lines_of file)) ≡ true
+        → (when t then refusal_of 0 1 else requests_print (requests_of file)) ≡ (when t then refusal_of 0 1 else requests_print (decimal_requests file))
     go true h = refl
     go false h = print_same _ _ (lines_of file) empty_state 1 h (ap (λ (rs : List Request). totals_print 1 (histories_of rs)))
 
 -- ---- a line that is accepted then has no such field
 
 accepted_no_0x : (ls : List Text) (t : State) → all_accepted t (map decimal_text ls) ≡ true → no0x_from t ls ≡ true
-unfolding no0x_from all_accepted if◌then◌else◌
+unfolding no0x_from all_accepted when◌then◌else◌
 accepted_no_0x [] t a = refl
 accepted_no_0x (l ∷ ls) t a =
     let r = decimal_text l in

@@ -8,7 +8,7 @@ use native.Mathlib.Omega.{arith}
 use lib.Dec.{eqb}
 use lib.ListN.{length}
 use borrow.Author.Tests.{eqb-true, le-ltb}
-use Rattle.words.specs.Word.{if◌then◌else◌}
+use Rattle.words.specs.Word.{when◌then◌else◌}
 use Rattle.rules.specs.Refusals.{period_ok}
 use Rattle.rules.proofs.Tables.{accepted as table-in-limits}
 use Rattle.book.specs.Log.{none, count}
@@ -92,13 +92,13 @@ kept_on {hs} {t} {n} (S period) h k =
 kept_on {hs} {t} {n} Refused h k = record { motors = k.motors; totals = k.totals; short = later n hs k.short }
 
 kept_through : (hs : List History) (t : State) (rs : List Request) {n : ℕ} → Kept hs t n → Kept (histories_from hs t rs) (states_after t rs) (n + length rs)
-unfolding histories_from states_after state_after if◌then◌else◌
+unfolding histories_from states_after state_after when◌then◌else◌
 kept_through hs t [] {n} k = let e : n ≡ n + 0 = omega arith in rw (← e) k
 kept_through hs t (r ∷ rs) {n} k =
     let e : suc n + length rs ≡ n + suc (length rs) = omega arith in
-    rw (← e) (kept_through (if eqb (refusal_for t r) 0 then histories_after hs t r else hs) (state_after t r) rs (one (eqb (refusal_for t r) 0) refl))
+    rw (← e) (kept_through (when eqb (refusal_for t r) 0 then histories_after hs t r else hs) (state_after t r) rs (one (eqb (refusal_for t r) 0) refl))
   where
-    one : (b : Bool) → eqb (refusal_for t r) 0 ≡ b → Kept (if b then histories_after hs t r else hs) (if b then changed t r else t) (suc n)
+    one : (b : Bool) → eqb (refusal_for t r) 0 ≡ b → Kept (when b then histories_after hs t r else hs) (when b then changed t r else t) (suc n)
     one true e = kept_on r (eqb-true _ _ e) k
     one false e = record { motors = k.motors; totals = k.totals; short = later n hs k.short }
 
@@ -130,6 +130,6 @@ module _ (rs : List Request) (few : length rs ≤ 65536) where
 -- ---- so they are what a file prints at its end
 
 pub print_rest : (file : List ℕ) → length file ≤ 65536 → print_of file ≡ rest_from file 0 empty_state 1
-unfolding print_of requests_print too_long if◌then◌else◌
+unfolding print_of requests_print too_long when◌then◌else◌
 print_rest file h =
     rw (le-ltb 65536 (length file) h, ← end_is (requests_of file) (omega (arith, few_requests file))) (sym (rest_from_lem file 0 empty_state 1 (omega arith)))

@@ -8,7 +8,7 @@ use native.Mathlib.Omega.{arith}
 use lib.ListN.{length, take}
 use lib.Dec.{ltb}
 use borrow.Author.Tests.{ltb-true, ltb-false}
-use Rattle.words.specs.Word.{if◌then◌else◌}
+use Rattle.words.specs.Word.{when◌then◌else◌}
 use Rattle.words.proofs.Laws.{either}
 use Rattle.report.specs.Print.{refusal_of}
 use Rattle.report.proofs.PutLaws.{front}
@@ -39,11 +39,11 @@ calls_rest (one_buffer h m f c) = through_rest f.through ∙ ap (λ (l : List �
 
 -- the whole print
 begun_rest : {file out after : List ℕ} {to : ℕ} {r : Advanced} → Begin file out to after r → print_of file ≡ opening file ++ rest_at file (place_of r.sitting)
-unfolding opening too_long if◌then◌else◌
+unfolding opening too_long when◌then◌else◌
 begun_rest {file} {r = r} b = rw (b.state, b.line) (go (ltb 65536 (length file)) refl b.at)
   where
-    go : (z : Bool) → ltb 65536 (length file) ≡ z → r.sitting.at ≡ (if z then length file + 1 else 0)
-        → print_of file ≡ (if z then refusal_of 0 1 else []) ++ rest_from file r.sitting.at empty_state 1
+    go : (z : Bool) → ltb 65536 (length file) ≡ z → r.sitting.at ≡ (when z then length file + 1 else 0)
+        → print_of file ≡ (when z then refusal_of 0 1 else []) ++ rest_from file r.sitting.at empty_state 1
     go true e f = print_long file (ltb-true 65536 (length file) e) ∙ sym (rw (f, rest_past file (length file + 1) empty_state 1 (omega arith)) (append-nil (refusal_of 0 1)))
     go false e f = rw f (print_rest file (ltb-false 65536 (length file) e))
 

@@ -9,7 +9,7 @@ use lib.ListN.{length, take, drop, get_or, length-append}
 use lib.Seq.{take-suc, length-take-le}
 use lib.Dec.{ltb}
 use borrow.Author.Tests.{eq-eqb, ne_eqb, lt-ltb, le-ltb}
-use Rattle.words.specs.Word.{if◌then◌else◌}
+use Rattle.words.specs.Word.{when◌then◌else◌}
 use Rattle.rules.specs.declared.Motor.{Motor}
 use Rattle.sheet.specs.declared.Request.{Request}
 use Rattle.sheet.specs.declared.Request.TheVariants.{Motor as M, Input as I, Scan as S, Refused}
@@ -91,11 +91,11 @@ end_length t h = omega (arith, totals_print_length 1 t.motors t.totals)
 
 module _ (end : List ℕ) (r : Request) (rs : List Request) (t : State) (k : ℕ) where
   pub from_accepted : refusal_for t r ≡ 0 → print_from end (r ∷ rs) t k ≡ answer_of (changed t r) r ++ print_from end rs (changed t r) (next_number k)
-  unfolding print_from if◌then◌else◌
+  unfolding print_from when◌then◌else◌
   from_accepted h = rw (eq-eqb (refusal_for t r) 0 h)
 
   pub from_refused : (refusal_for t r ≡ 0 → ⊥) → print_from end (r ∷ rs) t k ≡ refusal_of k (refusal_for t r)
-  unfolding print_from if◌then◌else◌
+  unfolding print_from when◌then◌else◌
   from_refused h = rw (ne_eqb (refusal_for t r) 0 h)
 
 -- ---- what is left to print from a place on
@@ -103,18 +103,18 @@ module _ (end : List ℕ) (r : Request) (rs : List Request) (t : State) (k : ℕ
 unfoldable pub rest_from : List ℕ → ℕ → State → ℕ → List ℕ
 rest_from file at t k =
     let rs = requests_of (drop at file) in
-    if ltb (length file) at then [] else print_from (at_end (states_after t rs)) rs t k
+    when ltb (length file) at then [] else print_from (at_end (states_after t rs)) rs t k
 
 abbrev pub rest_at : List ℕ → Place → List ℕ
 rest_at file p = rest_from file p.at p.state p.line
 
 module _ (file : List ℕ) (at : ℕ) (t : State) (k : ℕ) where
   pub rest_past : length file < at → rest_from file at t k ≡ []
-  unfolding rest_from if◌then◌else◌
+  unfolding rest_from when◌then◌else◌
   rest_past h = rw (lt-ltb (length file) at h)
 
   pub rest_from_lem : at ≤ length file → rest_from file at t k ≡ print_from (at_end (states_after t (requests_of (drop at file)))) (requests_of (drop at file)) t k
-  unfolding rest_from if◌then◌else◌
+  unfolding rest_from when◌then◌else◌
   rest_from_lem h = rw (le-ltb (length file) at h)
 
   -- at the end
@@ -127,7 +127,7 @@ module _ (file : List ℕ) (at : ℕ) (t : State) (k : ℕ) where
     here = rest_from_lem (omega (arith, s.further, s.within)) ∙ rw s.here
 
     pub rest_accepted : refusal_for t r ≡ 0 → rest_from file at t k ≡ answer_of (changed t r) r ++ rest_from file next (changed t r) (next_number k)
-    unfolding rest_from states_after if◌then◌else◌
+    unfolding rest_from states_after when◌then◌else◌
     rest_accepted h =
         here ∙ from_accepted (at_end (states_after t (r ∷ s.rest))) r s.rest t k h
         ∙ rw (accepted t r h, s.goes_on (not_accepted t r h), le-ltb (length file) next s.within)
@@ -167,5 +167,5 @@ module _ {file : List ℕ} {from : Place} where
 -- ---- the print of a file that is too long
 
 pub print_long : (file : List ℕ) → 65536 < length file → print_of file ≡ refusal_of 0 1
-unfolding print_of too_long if◌then◌else◌
+unfolding print_of too_long when◌then◌else◌
 print_long file h = rw (lt-ltb 65536 (length file) h)

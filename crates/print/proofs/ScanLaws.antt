@@ -9,7 +9,7 @@ use native.Mathlib.Numerals.{add-one}
 use lib.ListN.{length, get_or, set, take, length-set}
 use lib.Seq.{set-get_or, take-set-le}
 use borrow.Author.Tests.{ne_eqb}
-use Rattle.words.specs.Word.{if◌then◌else◌}
+use Rattle.words.specs.Word.{when◌then◌else◌}
 use Rattle.rules.specs.declared.Motor.{Motor}
 use Rattle.rules.specs.declared.Status.{Status}
 use Rattle.rules.specs.Record.{on, with_status}
@@ -58,7 +58,7 @@ module _ (ms : List Motor) (ts : List Totals) (i : ℕ) (m : Motor) (t : Totals)
 
     -- without a sure On reading they stay
     pub rested_totals_kept : (d : Totals) → (position_read r ≡ on → ⊥) → t ≡ get_or ts i d → ts ≡ set ts i (scan_totals t m word period)
-    unfolding on_after if◌then◌else◌
+    unfolding on_after when◌then◌else◌
     rested_totals_kept d other same = sym (set-get_or ts i d) ∙ ap (set ts i) (sym same) ∙ set_rested_totals (rw (ne_eqb (position_read r) on other))
 
   module _ {n : Motor} (f : n ≡ one_after m word period) where

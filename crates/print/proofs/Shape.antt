@@ -10,7 +10,7 @@ use native.Mathlib.Nat.{add-zero, zero-add, zero-mul, suc-mul}
 use native.Mathlib.Numerals.{add-one}
 use lib.ListN.{length, length-append}
 use borrow.Author.Tests.{eqb-true, eqb-false}
-use Rattle.words.specs.Word.{if◌then◌else◌}
+use Rattle.words.specs.Word.{when◌then◌else◌}
 use Rattle.words.proofs.Laws.{and_true, either}
 use Rattle.rules.specs.declared.Motor.{Motor}
 use Rattle.rules.specs.Refusals.{table_after}
@@ -82,7 +82,7 @@ answer_printed t (S period) = rows_printed t.scans 1 t.motors
 answer_printed t Refused = refl
 
 pub shaped : (end : List ℕ) (rs : List Request) (t : State) (k : ℕ) → Shaped end rs t k
-unfolding print_from accepted_from all_rows printed line_after if◌then◌else◌
+unfolding print_from accepted_from all_rows printed line_after when◌then◌else◌
 shaped end [] t k = record { tail = end; is = refl; ends = read_out }
 shaped end (r ∷ rs) t k = go (eqb (refusal_for t r) 0) refl (shaped end rs (changed t r) (next_number k))
   where
@@ -111,12 +111,12 @@ rows_many scan n [] = refl
 rows_many scan n (m ∷ ms) = ap suc (rows_many scan (n + 1) ms)
 
 pub accepts : (t : State) (rs : List Request) → all_accepted t (accepted_from t rs) ≡ true
-unfolding accepted_from all_accepted if◌then◌else◌
+unfolding accepted_from all_accepted when◌then◌else◌
 accepts t [] = refl
 accepts t (r ∷ rs) = go (eqb (refusal_for t r) 0) refl (accepts (changed t r) rs)
   where
     go : (b : Bool) → eqb (refusal_for t r) 0 ≡ b → all_accepted (changed t r) (accepted_from (changed t r) rs) ≡ true
-        → all_accepted t (if b then r ∷ accepted_from (changed t r) rs else []) ≡ true
+        → all_accepted t (when b then r ∷ accepted_from (changed t r) rs else []) ≡ true
     go true e a = rw e a
     go false e a = refl
 

@@ -1,6 +1,6 @@
 -- What a call that takes the next lines of a file does: it puts what they print into the lent buffer.
 use Rattle.std.specs.Prelude.{ℕ, ◌+◌, ◌<◌, ◌≤◌, ◌≡◌, List, [], ◌∷◌, ◌++◌, length}
-use Rattle.words.specs.Word.{if◌then◌else◌}
+use Rattle.words.specs.Word.{when◌then◌else◌}
 use Rattle.rules.specs.declared.Motor.{Motor}
 use Rattle.totals.specs.declared.Totals.{Totals}
 use Rattle.totals.specs.Totals.{under_way_in}
@@ -73,12 +73,12 @@ pub record Advance (file : List ℕ) (s : Sitting) (out : List ℕ) (to : ℕ) (
 
 -- What stands before the prints of the lines: the refusal of a file that is too long
 unfoldable pub opening : List ℕ → List ℕ
-opening file = if too_long (length file) then refusal_of 0 1 else []
+opening file = when too_long (length file) then refusal_of 0 1 else []
 
 -- What `begin` does: it puts this, and an empty bench stands before the first line, or past the end of a file that is too long.
 pub record Begin (file : List ℕ) (out : List ℕ) (to : ℕ) (after : List ℕ) (r : Advanced) : Type 0 where
   pub put : Put out to (opening file) after r.to
-  pub at : r.sitting.at ≡ (if too_long (length file) then length file + 1 else 0)
+  pub at : r.sitting.at ≡ (when too_long (length file) then length file + 1 else 0)
   pub state : view_of r.sitting.bench ≡ empty_state
   pub line : r.sitting.line ≡ 1
 

@@ -1,6 +1,6 @@
 -- The print of a whole file, which is the meaning of the bench program: the paper's "The bench program's file".
 use Rattle.std.specs.Prelude.{ℕ, ◌+◌, List, [], ◌∷◌, ◌++◌, eqb, length}
-use Rattle.words.specs.Word.{if◌then◌else◌}
+use Rattle.words.specs.Word.{when◌then◌else◌}
 use Rattle.rules.specs.declared.Motor.{Motor}
 use Rattle.sheet.specs.declared.Request.{Request}
 use Rattle.sheet.specs.declared.Request.TheVariants.{Motor as M, Input as I, Scan as S, Refused}
@@ -67,7 +67,7 @@ totals_print number (h ∷ hs) = totals_row_of (history_row number h) ++ totals_
 unfoldable pub print_from : List ℕ → List Request → State → ℕ → List ℕ
 print_from end [] t k = end
 print_from end (r ∷ rs) t k =
-    if eqb (refusal_for t r) 0 then answer_of (changed t r) r ++ print_from end rs (changed t r) (next_number k)
+    when eqb (refusal_for t r) 0 then answer_of (changed t r) r ++ print_from end rs (changed t r) (next_number k)
     else refusal_of k (refusal_for t r)
 
 -- The prints of a file's lines alone
@@ -81,4 +81,4 @@ requests_print rs = print_from (totals_print 1 (histories_of rs)) rs empty_state
 
 -- The whole print. A file that is too long prints `E,0,1` and nothing else.
 unfoldable pub print_of : List ℕ → List ℕ
-print_of file = if too_long (length file) then refusal_of 0 1 else requests_print (requests_of file)
+print_of file = when too_long (length file) then refusal_of 0 1 else requests_print (requests_of file)

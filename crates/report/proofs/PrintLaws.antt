@@ -8,7 +8,7 @@ use native.Mathlib.Nat.{pow-suc}
 use lib.ListN.{length, drop, get_or, length-append, drop_of_length-le}
 use lib.Seq.{drop-cons}
 use borrow.Author.Tests.{lt-ltb, le-ltb}
-use Rattle.words.specs.Word.{if◌then◌else◌}
+use Rattle.words.specs.Word.{when◌then◌else◌}
 use Rattle.sheet.specs.Split.{LF}
 use Rattle.report.specs.Print.{digits_of, decimal, after_comma, after_commas, line_of, letter_r, letter_e, letter_t, row_of, totals_row_of, refusal_of}
 use Rattle.report.specs.declared.Row.{Row}
@@ -17,11 +17,11 @@ use Rattle.report.specs.declared.TotalsRow.{TotalsRow}
 -- ---- a number below ten, and a larger one
 
 pub digits_less : (k n : ℕ) → n < 10 → digits_of (suc k) n ≡ (48 + n) ∷ []
-unfolding digits_of if◌then◌else◌
+unfolding digits_of when◌then◌else◌
 digits_less k n h = rw (lt-ltb n 10 h)
 
 pub digits_more : (k n : ℕ) → 10 ≤ n → digits_of (suc k) n ≡ digits_of k (n / 10) ++ ((48 + n % 10) ∷ [])
-unfolding digits_of if◌then◌else◌
+unfolding digits_of when◌then◌else◌
 digits_more k n h = rw (le-ltb n 10 h)
 
 -- the digits of a number do not depend on how many more there might be
@@ -58,7 +58,7 @@ module _ (ns : List ℕ) (i : ℕ) where
 -- ---- how long the print is
 
 digits_length : (k n : ℕ) → length (digits_of k n) ≤ k
-unfolding digits_of if◌then◌else◌
+unfolding digits_of when◌then◌else◌
 digits_length zero n = omega arith
 digits_length (suc k) n = go (dec_lt n 10) (digits_length k (n / 10))
   where

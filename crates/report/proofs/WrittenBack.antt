@@ -5,7 +5,7 @@ use mathlib.Core.List.{List, [], ◌∷◌, ◌++◌, map, append_assoc}
 use native.Mathlib.Omega.{arith}
 use lib.ListN.{length, length-append}
 use borrow.Author.Tests.{le-leb, lt-ltb, ne_eqb}
-use Rattle.words.specs.Word.{if◌then◌else◌}
+use Rattle.words.specs.Word.{when◌then◌else◌}
 use Rattle.sheet.specs.Split.{LF, comma, joined, index_of}
 use Rattle.sheet.specs.Lines.{longest, line, well_sized, text_of, lines_of}
 use Rattle.sheet.specs.Number.{largest}
@@ -50,12 +50,12 @@ numbers_free b (n ∷ ns) h r = free_more (decimal_free b n h r.0) (numbers_free
 
 module _ (letter : ℕ) (ns : List ℕ) (high : 48 ≤ letter) (r : InRange ns) where
   fields_free : (b : ℕ) → b < 48 → Free b (fields letter ns)
-  unfolding index_of if◌then◌else◌
+  unfolding index_of when◌then◌else◌
   fields_free b h = free_more {p = letter ∷ []} (rw (ne_eqb letter b (λ e. omega arith))) (numbers_free b ns h r)
 
   -- in front of other lines it is a line by itself; six numbers keep within the longest line
   pub line_first : (s : List ℕ) → length ns < 7 → lines_of (line_of letter ns ++ s) ≡ line (joined comma (fields letter ns)) ∷ lines_of s
-  unfolding line_of text_of well_sized if◌then◌else◌
+  unfolding line_of text_of well_sized when◌then◌else◌
   line_first s h =
       let body : List ℕ = joined comma (fields letter ns) in
       let e : line_of letter ns ≡ body ++ LF ∷ [] = commas_joined (letter ∷ []) ns in
@@ -75,7 +75,7 @@ unfolding requests_of text_request
 line_request letter ns s h r l = rw (line_first letter ns h r s l)
 
 empty_request : (s : List ℕ) → requests_of (LF ∷ s) ≡ Refused ∷ requests_of s
-unfolding requests_of text_request text_of well_sized index_of if◌then◌else◌
+unfolding requests_of text_request text_of well_sized index_of when◌then◌else◌
 empty_request s = rw (lines_part [] s refl)
 
 pub written_back : (r : Request) → InRange (values_of r) → (s : List ℕ) → requests_of (written r ++ s) ≡ r ∷ requests_of s

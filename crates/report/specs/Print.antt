@@ -1,7 +1,7 @@
 -- What is printed: the paper's "The bench program's file", `R,scan,number,mode,position,command,end,output,flags` and
 -- `E,line,refusal`, and the T lines of change request 2. "All numbers are decimal."
 use Rattle.std.specs.Prelude.{ℕ, zero, suc, ◌+◌, ◌/◌, ◌%◌, List, [], ◌∷◌, ◌++◌, ltb}
-use Rattle.words.specs.Word.{if◌then◌else◌}
+use Rattle.words.specs.Word.{when◌then◌else◌}
 use Rattle.sheet.specs.Split.{LF, comma}
 use Rattle.report.specs.declared.Row.{Row}
 use Rattle.report.specs.declared.TotalsRow.{TotalsRow}
@@ -9,7 +9,7 @@ use Rattle.report.specs.declared.TotalsRow.{TotalsRow}
 -- The decimal digits of a number below 10 ^ k, k at least 1, without a leading zero
 unfoldable pub digits_of : ℕ → ℕ → List ℕ
 digits_of zero n = []
-digits_of (suc k) n = if ltb n 10 then (48 + n) ∷ [] else digits_of k (n / 10) ++ ((48 + n % 10) ∷ [])
+digits_of (suc k) n = when ltb n 10 then (48 + n) ∷ [] else digits_of k (n / 10) ++ ((48 + n % 10) ∷ [])
 
 -- A number of 32 bits has at most ten digits.
 unfoldable pub decimal : ℕ → List ℕ

@@ -5,7 +5,7 @@ use mathlib.Core.Logic.{◌≢◌, ◌⊎◌, inl, inr}
 use mathlib.Core.Bool.{Bool, true, false, ◌&&◌}
 use native.Mathlib.Omega.{arith}
 use lib.Dec.{eqb, lit<, lit≤}
-use Rattle.words.specs.Word.{if◌then◌else◌, is_set}
+use Rattle.words.specs.Word.{when◌then◌else◌, is_set}
 use Rattle.words.proofs.Laws.{set_has, set_keeps, clear_has, clear_keeps, clear_one_keeps, either, if_map}
 use Rattle.rules.specs.declared.Settings.{Settings}
 use Rattle.rules.specs.declared.Status.{Status}
@@ -17,7 +17,7 @@ use Rattle.rules.specs.Steps.{reading, supply_fault, switch_fault, both_closed, 
 -- ---- setting, clearing and putting
 
 -- a choice has the bit that both of its arms have
-if_keeps : (k : ℕ) (b : Bool) (x y : ℕ) {t : Bool} → is_set k x ≡ t → is_set k y ≡ t → is_set k (if b then x else y) ≡ t
+if_keeps : (k : ℕ) (b : Bool) (x y : ℕ) {t : Bool} → is_set k x ≡ t → is_set k y ≡ t → is_set k (when b then x else y) ≡ t
 if_keeps k b x y {t} = either (λ (n : ℕ). is_set k n ≡ t) b
 
 put_keeps : (j k : ℕ) (b : Bool) (w : ℕ) → j ≢ k → is_set k (put_flag j b w) ≡ is_set k w
@@ -25,7 +25,7 @@ unfolding put_flag
 put_keeps j k b w ne = if_keeps k b _ _ (set_keeps j k w ne) (clear_one_keeps j k w ne)
 
 put_has : (k : ℕ) (b : Bool) (w : ℕ) → k < 32 → is_set k (put_flag k b w) ≡ b
-unfolding put_flag if◌then◌else◌
+unfolding put_flag when◌then◌else◌
 put_has k true w h = set_has k w h
 put_has k false w h = clear_has k w
 

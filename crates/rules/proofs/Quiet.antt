@@ -4,7 +4,7 @@ use Prim.Native.Nat.{ℕ, ◌^◌, ◌<◌}
 use mathlib.Core.Path.{◌≡◌, refl, sym, ◌∙◌}
 use mathlib.Core.Bool.{Bool, true, false, and-false}
 use native.Mathlib.Nat.{zero-div}
-use Rattle.words.specs.Word.{if◌then◌else◌, bit_of, is_set, without}
+use Rattle.words.specs.Word.{when◌then◌else◌, bit_of, is_set, without}
 use Rattle.words.proofs.Laws.{risen_is, either}
 use Rattle.rules.specs.declared.Settings.{Settings}
 use Rattle.rules.specs.declared.Status.{Status}
@@ -19,24 +19,24 @@ module _ (s : Settings) (v : Status) (word : ℕ) (hw : word < 2 ^ 32) (hp : v.p
   no_bit k = sym (risen_is k word v.previous hw hp) ∙ rw (none, zero-div) refl
 
   no_mode : status6 s v word ≡ v
-  unfolding status6 mode_changes modes_risen with_mode if◌then◌else◌
+  unfolding status6 mode_changes modes_risen with_mode when◌then◌else◌
   no_mode = simp (no_bit 9, no_bit 10, no_bit 11, and-false)
 
   no_acknowledgement : status7 s v word ≡ v
-  unfolding status7 flags7 acknowledges_off acknowledges_on command_risen input_bit with_flags if◌then◌else◌
+  unfolding status7 flags7 acknowledges_off acknowledges_on command_risen input_bit with_flags when◌then◌else◌
   no_acknowledgement = simp (no_bit 13, no_bit 12, and-false)
 
   no_choice : chosen s v word ≡ 0
-  unfolding chosen first_of commands candidate command_risen input_bit if◌then◌else◌
+  unfolding chosen first_of commands candidate command_risen input_bit when◌then◌else◌
   no_choice = simp (no_bit 0, no_bit 8, no_bit 7, no_bit 3, no_bit 2, no_bit 13, no_bit 12)
 
   none_issued : issued s v word ≡ 0
-  unfolding issued issues starts displaces if◌then◌else◌
-  none_issued = rw no_choice (either (λ (t : Bool). ◌≡◌ {A = ℕ} (if t then 0 else 0) 0) (idle v) refl refl)
+  unfolding issued issues starts displaces when◌then◌else◌
+  none_issued = rw no_choice (either (λ (t : Bool). ◌≡◌ {A = ℕ} (when t then 0 else 0) 0) (idle v) refl refl)
 
 pub quiet : (m : Motor) (word period : ℕ) → word < 2 ^ 32 → m.status.previous < 2 ^ 32 → without m.status.previous word ≡ 0
     → step m word period ≡ with_status (steps1to5 m word period) (status10 (steps1to5 m word period).status word)
-unfolding step steps6to10 step9 with_status if◌then◌else◌
+unfolding step steps6to10 step9 with_status when◌then◌else◌
 quiet m word period hw hp none =
     let n = steps1to5 m word period in
     let e : n.status.previous ≡ m.status.previous = unfold steps1to5 with_status step4 step3 status5 status4 status2 status1 with_flags with_command with_positions in refl in
@@ -48,5 +48,5 @@ quiet m word period hw hp none =
 -- Where no command is under way and no pulse runs, steps 3 and 4 leave everything as it is.
 pub idle_first : (m : Motor) (word period : ℕ) → idle m.status ≡ true → running m.settings m.output ≡ false
     → steps1to5 m word period ≡ with_status m (idle_status m.settings m.status word (reading m.settings word))
-unfolding idle_status steps1to5 step4 step3 running status4 end4 flags4 ended drops confirmed overdue with_command with_flags with_status status2 status1 with_positions idle if◌then◌else◌
+unfolding idle_status steps1to5 step4 step3 running status4 end4 flags4 ended drops confirmed overdue with_command with_flags with_status status2 status1 with_positions idle when◌then◌else◌
 idle_first m word period e f = rw (e, f) refl

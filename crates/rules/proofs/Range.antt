@@ -9,7 +9,7 @@ use native.Mathlib.Nat.{lt_of_le_of_lt}
 use native.Mathlib.Omega.{arith}
 use lib.Dec.{eqb, leb, lit<, lit≤}
 use borrow.Author.Tests.{leb-true, leb-false, le-leb, eqb-true, not-false}
-use Rattle.words.specs.Word.{if◌then◌else◌, with_bit, without_bit, without_bits}
+use Rattle.words.specs.Word.{when◌then◌else◌, with_bit, without_bit, without_bits}
 use Rattle.words.proofs.Laws.{either, if_lt, with_lt, without_le, and_true}
 use Rattle.rules.specs.declared.Settings.{Settings}
 use Rattle.rules.specs.declared.Status.{Status}
@@ -156,13 +156,13 @@ with_status_lem f h = record { settings = f.settings; status = h; sum = f.sum; o
 
 -- steps 3 and 4 together, since a sum is out of range between them: what is still under way is below its limit
 sum_kept : (idle conf : Bool) (sum period w : ℕ) → sum < 600000 → w ≤ 600000
-    → (if not idle && conf || not idle && not conf && leb w (if idle then sum else sum + period) then 0 else if idle then sum else sum + period) < 600000
-unfolding if◌then◌else◌
+    → (when not idle && conf || not idle && not conf && leb w (when idle then sum else sum + period) then 0 else when idle then sum else sum + period) < 600000
+unfolding when◌then◌else◌
 sum_kept true conf sum period w h l = h
 sum_kept false true sum period w h l = lit< tt
 sum_kept false false sum period w h l = go (leb w (sum + period)) refl
   where
-    go : (b : Bool) → leb w (sum + period) ≡ b → (if b then 0 else sum + period) < 600000
+    go : (b : Bool) → leb w (sum + period) ≡ b → (when b then 0 else sum + period) < 600000
     go true e = lit< tt
     go false e = let x = leb-false w (sum + period) e in omega arith
 
@@ -172,14 +172,14 @@ record OutputFits (o : Output) : Type 0 where
 
 pulse_kept : (running late done : Bool) (state sum period u : ℕ) → state < 3 → sum < 600000 → u ≤ 600000
     → OutputFits
-    (if running && (leb u (if running then sum + period else sum) || late || done) then dropped
-    else record { state = state; sum = if running then sum + period else sum })
-unfolding if◌then◌else◌ dropped
+    (when running && (leb u (when running then sum + period else sum) || late || done) then dropped
+    else record { state = state; sum = when running then sum + period else sum })
+unfolding when◌then◌else◌ dropped
 pulse_kept false late done state sum period u g h l = record { state = g; sum = h }
 pulse_kept true late done state sum period u g h l = go (leb u (sum + period)) refl late done
   where
     go : (b : Bool) → leb u (sum + period) ≡ b → (late done : Bool)
-        → OutputFits (if b || late || done then dropped else record { state = state; sum = sum + period })
+        → OutputFits (when b || late || done then dropped else record { state = state; sum = sum + period })
     go true e late done = record { state = lit< tt; sum = lit< tt }
     go false e true done = record { state = lit< tt; sum = lit< tt }
     go false e false true = record { state = lit< tt; sum = lit< tt }
@@ -356,10 +356,10 @@ range_kept m word period h l =
     in_range_lem _ (keeps m word period (omega arith) (record_fits m h))
 
 pub scan_in_range : (m : Motor) (word period : ℕ) → in_range m ≡ true → in_range (one_after m word period) ≡ true
-unfolding one_after if◌then◌else◌
+unfolding one_after when◌then◌else◌
 scan_in_range m word period h = go (eqb (one_refusal m word period) 0) refl
   where
-    go : (b : Bool) → eqb (one_refusal m word period) 0 ≡ b → in_range (if b then step m word period else m) ≡ true
+    go : (b : Bool) → eqb (one_refusal m word period) 0 ≡ b → in_range (when b then step m word period else m) ≡ true
     go true e = range_kept m word period h (one_in_limits m word period (eqb-true _ _ e)).input
     go false e = h
 
@@ -375,11 +375,11 @@ scans_in_range m (i ∷ is) h = scans_in_range (one_after m i.word i.period) is 
 -- A motor that starts fresh with settings in range is never refused by 6.
 pub never_out_of_range : (s : Settings) → settings_in_range s ≡ true → (is : List Input) (word period : ℕ)
     → one_refusal (scans (fresh s) is) word period ≢ 6
-unfolding one_refusal if◌then◌else◌
+unfolding one_refusal when◌then◌else◌
 never_out_of_range s h is word period =
     simp (scans_in_range (fresh s) is (fresh_in_range s h)) (go (period_ok period) (word_ok word))
   where
-    go : (b c : Bool) → ◌≢◌ {A = ℕ} (if not b then 2 else if not c then 3 else 0) 6
+    go : (b c : Bool) → ◌≢◌ {A = ℕ} (when not b then 2 else when not c then 3 else 0) 6
     go true true e = omega arith
     go true false e = omega arith
     go false c e = omega arith

@@ -9,7 +9,7 @@ use lib.Dec.{eqb, ltb, lit<}
 use lib.ListN.{length, get_or, set, take, drop, take-append-drop}
 use lib.Seq.{length-take-le, length_front, take_at, drop_at}
 use borrow.Author.Tests.{eqb-true, ltb-false, not-false, eq-eqb, ne_eqb, le-ltb}
-use Rattle.words.specs.Word.{if◌then◌else◌}
+use Rattle.words.specs.Word.{when◌then◌else◌}
 use Rattle.words.proofs.Laws.{and_true, either, if_map}
 use Rattle.rules.specs.Steps.{step}
 use Rattle.rules.specs.Refusals.{in_range, most_motors, misfit, period_ok, word_ok, all_ok, one_refusal, one_after, table_refusal, step_all, table_after, part_refusal, part_after}
@@ -20,8 +20,8 @@ pub or_false : (a b : Bool) → a || b ≡ false → (a ≡ false) × (b ≡ fal
 or_false true b e = (e, cc)
 or_false false b e = (refl, e)
 
-pub if_zero : (z : Bool) (c a : ℕ) → 0 < c → if◌then◌else◌ z c a ≡ 0 → (z ≡ false) × (a ≡ 0)
-unfolding if◌then◌else◌
+pub if_zero : (z : Bool) (c a : ℕ) → 0 < c → when◌then◌else◌ z c a ≡ 0 → (z ≡ false) × (a ≡ 0)
+unfolding when◌then◌else◌
 if_zero true c a l e = absurd (omega (arith, l, e))
 if_zero false c a l e = (refl, e)
 
@@ -39,24 +39,24 @@ all_ok_suc f (x ∷ xs) (suc i) d l = ap (λ (b : Bool). f x && b) (all_ok_suc f
 
 -- ---- one motor
 pub one_refused : (m : Motor) (w p : ℕ) → (one_refusal m w p ≡ 0 → ⊥) → one_after m w p ≡ m
-unfolding one_after if◌then◌else◌
+unfolding one_after when◌then◌else◌
 one_refused m w p h = rw (ne_eqb (one_refusal m w p) 0 h)
 
 pub one_accepted : (m : Motor) (w p : ℕ) → one_refusal m w p ≡ 0 → one_after m w p ≡ step m w p
-unfolding one_after if◌then◌else◌
+unfolding one_after when◌then◌else◌
 one_accepted m w p h = rw (eq-eqb (one_refusal m w p) 0 h)
 
 pub one_accepts : (m : Motor) (w p : ℕ) → in_range m ≡ true → period_ok p ≡ true → word_ok w ≡ true → one_refusal m w p ≡ 0
-unfolding one_refusal if◌then◌else◌
+unfolding one_refusal when◌then◌else◌
 one_accepts m w p a b c = rw (a, b, c)
 
 -- ---- a table
 pub table_refused : (ms : List Motor) (ws : List ℕ) (p : ℕ) → (table_refusal ms ws p ≡ 0 → ⊥) → table_after ms ws p ≡ ms
-unfolding table_after if◌then◌else◌
+unfolding table_after when◌then◌else◌
 table_refused ms ws p h = rw (ne_eqb (table_refusal ms ws p) 0 h)
 
 pub table_accepted : (ms : List Motor) (ws : List ℕ) (p : ℕ) → table_refusal ms ws p ≡ 0 → table_after ms ws p ≡ step_all ms ws p
-unfolding table_after if◌then◌else◌
+unfolding table_after when◌then◌else◌
 table_accepted ms ws p h = rw (eq-eqb (table_refusal ms ws p) 0 h)
 
 -- what is so where a table is accepted
@@ -147,7 +147,7 @@ steps_front (m ∷ ms) (w ∷ ws) p (suc n) = ap (λ (l : List Motor). step m w 
 
 -- ---- a table of one is refused and scanned as its record by itself
 pub single_refusal : (m : Motor) (w p : ℕ) → table_refusal (m ∷ []) (w ∷ []) p ≡ one_refusal m w p
-unfolding table_refusal misfit one_refusal most_motors all_ok if◌then◌else◌
+unfolding table_refusal misfit one_refusal most_motors all_ok when◌then◌else◌
 single_refusal m w p = rw (and-end (in_range m), and-end (word_ok w))
 
 pub single_after : (m : Motor) (w p : ℕ) → table_after (m ∷ []) (w ∷ []) p ≡ one_after m w p ∷ []
@@ -155,8 +155,8 @@ unfolding table_after one_after step_all
 single_after m w p = rw (single_refusal m w p) (sym (if_map (λ (n : Motor). n ∷ []) (eqb (one_refusal m w p) 0) (step m w p) m))
 
 -- ---- the first records of an array
-part_unchanged : (ms : List Motor) (n : ℕ) (ws : List ℕ) (p : ℕ) (z : Bool) → (if◌then◌else◌ z 1 (table_refusal (take n ms) (take n ws) p) ≡ 0 → ⊥) → if◌then◌else◌ z ms (table_after (take n ms) (take n ws) p ++ drop n ms) ≡ ms
-unfolding if◌then◌else◌
+part_unchanged : (ms : List Motor) (n : ℕ) (ws : List ℕ) (p : ℕ) (z : Bool) → (when◌then◌else◌ z 1 (table_refusal (take n ms) (take n ws) p) ≡ 0 → ⊥) → when◌then◌else◌ z ms (table_after (take n ms) (take n ws) p ++ drop n ms) ≡ ms
+unfolding when◌then◌else◌
 part_unchanged ms n ws p true h = refl
 part_unchanged ms n ws p false h = rw (table_refused (take n ms) (take n ws) p h) (take-append-drop n ms)
 
@@ -170,19 +170,19 @@ length_part ms n ws p = either (λ (ns : List Motor). length ns ≡ length ms) _
 
 -- where a table of the first records is accepted, they are stepped
 pub part_stepped : (ms : List Motor) (n : ℕ) (ws : List ℕ) (p : ℕ) → part_refusal ms n ws p ≡ 0 → part_after ms n ws p ≡ step_all ms (take n ws) p
-unfolding part_refusal part_after if◌then◌else◌
+unfolding part_refusal part_after when◌then◌else◌
 part_stepped ms n ws p h = go (ltb most_motors n) h
   where
-    go : (z : Bool) → if◌then◌else◌ z 1 (table_refusal (take n ms) (take n ws) p) ≡ 0
-        → if◌then◌else◌ z ms (table_after (take n ms) (take n ws) p ++ drop n ms) ≡ step_all ms (take n ws) p
+    go : (z : Bool) → when◌then◌else◌ z 1 (table_refusal (take n ms) (take n ws) p) ≡ 0
+        → when◌then◌else◌ z ms (table_after (take n ms) (take n ws) p ++ drop n ms) ≡ step_all ms (take n ws) p
     go true e = absurd (omega arith)
     go false e = rw (table_accepted (take n ms) (take n ws) p e) (sym (steps_front ms ws p n))
 
 -- where the count is one of a table, the first records are scanned as a table, and the others stay
 pub part_front : (ms : List Motor) (n : ℕ) (ws : List ℕ) (p : ℕ) → n ≤ most_motors → n ≤ length ms → take n (part_after ms n ws p) ≡ table_after (take n ms) (take n ws) p
-unfolding part_after if◌then◌else◌
+unfolding part_after when◌then◌else◌
 part_front ms n ws p few l = rw (le-ltb most_motors n few) (take_at (table_after (take n ms) (take n ws) p) (drop n ms) n (length_after (take n ms) (take n ws) p ∙ length-take-le n ms l))
 
 pub part_rest : (ms : List Motor) (n : ℕ) (ws : List ℕ) (p : ℕ) → n ≤ most_motors → n ≤ length ms → drop n (part_after ms n ws p) ≡ drop n ms
-unfolding part_after if◌then◌else◌
+unfolding part_after when◌then◌else◌
 part_rest ms n ws p few l = rw (le-ltb most_motors n few) (drop_at (table_after (take n ms) (take n ws) p) (drop n ms) n (length_after (take n ms) (take n ws) p ∙ length-take-le n ms l))

@@ -2,7 +2,7 @@
 -- All numbers are decimal, times are milliseconds. Letters: s settings, v status, o output, m record, c a command's number.
 -- `x.f` is field f of x; `&&` is and, `||` or, `&&` binds before `||`; `eqb a b` is a = b, `leb a b` is a ≤ b, `ltb a b` is a < b.
 use Rattle.std.specs.Prelude.{ℕ, ◌+◌, Bool, ◌||◌, List, [], ◌∷◌, eqb}
-use Rattle.words.specs.Word.{if◌then◌else◌, is_set, rose}
+use Rattle.words.specs.Word.{when◌then◌else◌, is_set, rose}
 use Rattle.rules.specs.declared.Settings.{Settings}
 use Rattle.rules.specs.declared.Status.{Status}
 use Rattle.rules.specs.declared.Output.{Output}
@@ -113,8 +113,8 @@ commands = sma_off ∷ lz_off ∷ lz_on ∷ mu_off ∷ mu_on ∷ ko_off ∷ ko_o
 -- The direction of a command; what is no command has none
 unfoldable pub direction : ℕ → ℕ
 direction c =
-    if eqb c lz_on || eqb c mu_on || eqb c ko_on then on
-    else if eqb c sma_off || eqb c lz_off || eqb c mu_off || eqb c ko_off then off
+    when eqb c lz_on || eqb c mu_on || eqb c ko_on then on
+    else when eqb c sma_off || eqb c lz_off || eqb c mu_off || eqb c ko_off then off
     else unsure
 
 unfoldable pub is_on : ℕ → Bool
@@ -132,21 +132,21 @@ is_ko c = eqb c ko_off || eqb c ko_on
 
 -- The output of a command, and the other one (neither is asked for without a command)
 unfoldable pub own_output : ℕ → ℕ
-own_output c = if is_on c then output_on else output_off
+own_output c = when is_on c then output_on else output_off
 
 unfoldable pub opposite_output : ℕ → ℕ
-opposite_output c = if is_on c then output_off else output_on
+opposite_output c = when is_on c then output_off else output_on
 
 -- The input bit of a command; what is no command has bit 32, which no word has
 unfoldable pub input_bit : ℕ → ℕ
 input_bit c =
-    if eqb c sma_off then 0
-    else if eqb c lz_off then 8
-    else if eqb c lz_on then 7
-    else if eqb c mu_off then 3
-    else if eqb c mu_on then 2
-    else if eqb c ko_off then 13
-    else if eqb c ko_on then 12
+    when eqb c sma_off then 0
+    else when eqb c lz_off then 8
+    else when eqb c lz_on then 7
+    else when eqb c mu_off then 3
+    else when eqb c mu_on then 2
+    else when eqb c ko_off then 13
+    else when eqb c ko_on then 12
     else 32
 
 -- Flag k: 0 no supply, 1 switch fault, 2 and 3 unsanctioned on and off, 4 on by LZ, 5 off by LZ, 6 off by SMA, 6+c command c overdue,

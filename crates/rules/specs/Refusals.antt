@@ -1,7 +1,7 @@
 -- The limits, and the order of refusals of a scan: the paper's "Refused because of the input", "Refused because of the state" and
 -- "Order", as far as they concern a scan. 0 is an accepted scan.
 use Rattle.std.specs.Prelude.{ℕ, Bool, true, not, ◌&&◌, ◌||◌, List, [], ◌∷◌, ◌++◌, eqb, leb, ltb, length, take, drop}
-use Rattle.words.specs.Word.{if◌then◌else◌}
+use Rattle.words.specs.Word.{when◌then◌else◌}
 use Rattle.rules.specs.declared.Settings.{Settings}
 use Rattle.rules.specs.declared.Status.{Status}
 use Rattle.rules.specs.declared.Output.{Output}
@@ -51,10 +51,10 @@ word_ok word = leb word most_word
 
 -- A scan of a single motor: 6, 2, 3; refused, it leaves the record as it was.
 unfoldable pub one_refusal : Motor → ℕ → ℕ → ℕ
-one_refusal m word period = if not (in_range m) then 6 else if not (period_ok period) then 2 else if not (word_ok word) then 3 else 0
+one_refusal m word period = when not (in_range m) then 6 else when not (period_ok period) then 2 else when not (word_ok word) then 3 else 0
 
 unfoldable pub one_after : Motor → ℕ → ℕ → Motor
-one_after m word period = if eqb (one_refusal m word period) 0 then step m word period else m
+one_after m word period = when eqb (one_refusal m word period) 0 then step m word period else m
 
 -- A table scan: 1, 6, 2, 3, over the whole table before anything is written; refused, it leaves the table as it was. Accepted, it
 -- scans every motor, each from its own record, its own word and the period alone.
@@ -68,10 +68,10 @@ misfit records words = not (eqb records words) || ltb most_motors records
 
 unfoldable pub table_refusal : List Motor → List ℕ → ℕ → ℕ
 table_refusal ms words period =
-    if misfit (length ms) (length words) then 1
-    else if not (all_ok in_range ms) then 6
-    else if not (period_ok period) then 2
-    else if not (all_ok word_ok words) then 3
+    when misfit (length ms) (length words) then 1
+    else when not (all_ok in_range ms) then 6
+    else when not (period_ok period) then 2
+    else when not (all_ok word_ok words) then 3
     else 0
 
 -- (in an accepted scan there is a word for each motor)
@@ -81,12 +81,12 @@ step_all (m ∷ ms) [] period = m ∷ ms
 step_all (m ∷ ms) (word ∷ words) period = step m word period ∷ step_all ms words period
 
 unfoldable pub table_after : List Motor → List ℕ → ℕ → List Motor
-table_after ms words period = if eqb (table_refusal ms words period) 0 then step_all ms words period else ms
+table_after ms words period = when eqb (table_refusal ms words period) 0 then step_all ms words period else ms
 
 -- A scan of the first records of an array, with as many words; the records past them stay. A count that no table has is refused by 1.
 unfoldable pub part_refusal : List Motor → ℕ → List ℕ → ℕ → ℕ
-part_refusal ms count words period = if ltb most_motors count then 1 else table_refusal (take count ms) (take count words) period
+part_refusal ms count words period = when ltb most_motors count then 1 else table_refusal (take count ms) (take count words) period
 
 unfoldable pub part_after : List Motor → ℕ → List ℕ → ℕ → List Motor
 part_after ms count words period =
-    if ltb most_motors count then ms else table_after (take count ms) (take count words) period ++ drop count ms
+    when ltb most_motors count then ms else table_after (take count ms) (take count words) period ++ drop count ms

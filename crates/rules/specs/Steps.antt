@@ -4,7 +4,7 @@
 -- book of commands shares them. It has no sums and no output, so it hands step 4 its own answer to whether the time is up.
 -- The switches are read once (`reading`); steps 2, 4 and 5 are handed what they read.
 use Rattle.std.specs.Prelude.{ℕ, ◌+◌, Bool, true, false, not, ◌&&◌, ◌||◌, List, [], ◌∷◌, eqb, leb, ltb}
-use Rattle.words.specs.Word.{if◌then◌else◌, with_bit, without_bit, without_bits}
+use Rattle.words.specs.Word.{when◌then◌else◌, with_bit, without_bit, without_bits}
 use Rattle.rules.specs.declared.Settings.{Settings}
 use Rattle.rules.specs.declared.Status.{Status}
 use Rattle.rules.specs.declared.Output.{Output}
@@ -15,7 +15,7 @@ use Rattle.rules.specs.Record.{ops₁, ops₂, local_mode, on_switch, off_switch
 
 -- Step 1. End becomes 0. Reset clears flags 2 to 13.
 unfoldable pub flags1 : Status → ℕ → ℕ
-flags1 v word = if reset word then without_bits 2 12 v.flags else v.flags
+flags1 v word = when reset word then without_bits 2 12 v.flags else v.flags
 
 unfoldable pub status1 : Status → ℕ → Status
 status1 v word = with_flags (with_command v v.command no_end) (flags1 v word)
@@ -23,7 +23,7 @@ status1 v word = with_flags (with_command v v.command no_end) (flags1 v word)
 -- Step 2. OPS_1 bit 0 = 0: On switch 1 means On, 0 means Off, always sure. Bit 0 = 1: sure if the two switches differ; if not,
 -- both are open, or both closed, and the reading says which (change request 1).
 unfoldable pub read_on_switch : ℕ → Reading
-read_on_switch word = if on_switch word then On else Off
+read_on_switch word = when on_switch word then On else Off
 
 -- by the On switch and the Off switch: 1, true, is closed
 unfoldable pub pair_read : Bool → Bool → Reading
@@ -36,7 +36,7 @@ unfoldable pub read_switches : ℕ → Reading
 read_switches word = pair_read (on_switch word) (off_switch word)
 
 unfoldable pub reading : Settings → ℕ → Reading
-reading s word = if ops₁ s 0 then read_switches word else read_on_switch word
+reading s word = when ops₁ s 0 then read_switches word else read_on_switch word
 
 -- the position that is read; both open and both closed give none
 unfoldable pub position_read : Reading → ℕ
@@ -58,19 +58,19 @@ both_closed BothClosed = true
 -- command alone), sets flag 2, to On, or 3, to Off.
 unfoldable pub flags2 : Status → Reading → ℕ
 flags2 v r =
-    if idle v && eqb v.sure off && eqb (position_read r) on then with_bit 2 v.flags
-    else if idle v && eqb v.sure on && eqb (position_read r) off then with_bit 3 v.flags
+    when idle v && eqb v.sure off && eqb (position_read r) on then with_bit 2 v.flags
+    else when idle v && eqb v.sure on && eqb (position_read r) off then with_bit 3 v.flags
     else v.flags
 
 -- Unsure: position 0 if OPS_2 bit 2 = 0; else the last sure position if bit 3 = 0; else Off or On as bit 4 is 0 or 1.
 unfoldable pub pretended : Settings → ℕ → ℕ
-pretended s sure = if not (ops₂ s 2) then unsure else if not (ops₂ s 3) then sure else if ops₂ s 4 then on else off
+pretended s sure = when not (ops₂ s 2) then unsure else when not (ops₂ s 3) then sure else when ops₂ s 4 then on else off
 
 -- A sure reading becomes the position and the last sure position.
 unfoldable pub status2 : Settings → Status → Reading → Status
 status2 s v r =
     with_flags
-    (with_positions v (if is_sure r then position_read r else v.sure) (if is_sure r then position_read r else pretended s v.sure))
+    (with_positions v (when is_sure r then position_read r else v.sure) (when is_sure r then position_read r else pretended s v.sure))
     (flags2 v r)
 
 -- Step 3. The period is added to the sum of a command under way and of a running pulse; an idle sum stays.
@@ -86,11 +86,11 @@ step3 m period =
     record {
       settings = m.settings;
       status = m.status;
-      sum = if idle m.status then m.sum else m.sum + period;
+      sum = when idle m.status then m.sum else m.sum + period;
       output =
           record {
             state = m.output.state;
-            sum = if running m.settings m.output then m.output.sum + period else m.output.sum;
+            sum = when running m.settings m.output then m.output.sum + period else m.output.sum;
           };
     }
 
@@ -110,13 +110,13 @@ ended v r up = confirmed v r || overdue v r up
 
 -- the end that this gives
 unfoldable pub end4 : Status → Reading → Bool → ℕ
-end4 v r up = if confirmed v r then end_confirmed else if overdue v r up then end_overdue else v.end
+end4 v r up = when confirmed v r then end_confirmed else when overdue v r up then end_overdue else v.end
 
 unfoldable pub flags4 : Status → Reading → Bool → ℕ
-flags4 v r up = if overdue v r up then with_bit (overdue_flag v.command) v.flags else v.flags
+flags4 v r up = when overdue v r up then with_bit (overdue_flag v.command) v.flags else v.flags
 
 unfoldable pub status4 : Status → Reading → Bool → Status
-status4 v r up = with_flags (with_command v (if ended v r up then no_command else v.command) (end4 v r up)) (flags4 v r up)
+status4 v r up = with_flags (with_command v (when ended v r up then no_command else v.command) (end4 v r up)) (flags4 v r up)
 
 unfoldable pub time_up : Motor → Bool
 time_up m = leb m.settings.w m.sum
@@ -139,8 +139,8 @@ step4 m r =
     record {
       settings = m.settings;
       status = status4 m.status r (time_up m);
-      sum = if ended m.status r (time_up m) then 0 else m.sum;
-      output = if drops m r then dropped else m.output;
+      sum = when ended m.status r (time_up m) then 0 else m.sum;
+      output = when drops m r then dropped else m.output;
     }
 
 -- Step 5. Flags 0, 1 and 14 are formed if OPS_2 bit 1 = 1, or bit 1 of the word = 0, or OPS_1 bit 2 = 1; otherwise they are 0.
@@ -160,7 +160,7 @@ closed_fault s v word r = switch_fault s v word r && both_closed r
 
 -- a flag put to a value
 unfoldable pub put_flag : ℕ → Bool → ℕ → ℕ
-put_flag k b flags = if b then with_bit k flags else without_bit k flags
+put_flag k b flags = when b then with_bit k flags else without_bit k flags
 
 unfoldable pub status5 : Settings → Status → ℕ → Reading → Status
 status5 s v word r =
@@ -170,11 +170,11 @@ status5 s v word r =
 -- command's bit has risen.
 unfoldable pub modes_risen : Status → ℕ → ℕ
 modes_risen v word =
-    (if bit_risen v word 9 then 1 else 0) + (if bit_risen v word 10 then 1 else 0) + (if bit_risen v word 11 then 1 else 0)
+    (when bit_risen v word 9 then 1 else 0) + (when bit_risen v word 10 then 1 else 0) + (when bit_risen v word 11 then 1 else 0)
 
 -- the mode that this one bit asks for
 unfoldable pub mode_asked : Status → ℕ → ℕ
-mode_asked v word = if bit_risen v word 9 then repair else if bit_risen v word 10 then reserve else work
+mode_asked v word = when bit_risen v word 9 then repair else when bit_risen v word 10 then reserve else work
 
 unfoldable pub any_of : (ℕ → Bool) → List ℕ → Bool
 any_of test [] = false
@@ -193,7 +193,7 @@ mode_changes s v word =
     && mode_allowed s v (mode_asked v word)
 
 unfoldable pub status6 : Settings → Status → ℕ → Status
-status6 s v word = with_mode v (if mode_changes s v word then mode_asked v word else v.mode)
+status6 s v word = with_mode v (when mode_changes s v word then mode_asked v word else v.mode)
 
 -- Step 7. Acknowledging, outside local mode: KO off risen, OPS_1 bit 15 and flag 5 or 6 set: both clear. KO on risen, OPS_2 bit 0 and
 -- flag 4 set: it clears.
@@ -205,8 +205,8 @@ acknowledges_on s v word = not (local_mode word) && command_risen v word ko_on &
 
 unfoldable pub flags7 : Settings → Status → ℕ → ℕ
 flags7 s v word =
-    let f = if acknowledges_off s v word then without_bits 5 2 v.flags else v.flags in
-    if acknowledges_on s v word then without_bit 4 f else f
+    let f = when acknowledges_off s v word then without_bits 5 2 v.flags else v.flags in
+    when acknowledges_on s v word then without_bit 4 f else f
 
 unfoldable pub status7 : Settings → Status → ℕ → Status
 status7 s v word = with_flags v (flags7 s v word)
@@ -241,7 +241,7 @@ candidate s v word c = command_risen v word c && not (acknowledges s v word c) &
 -- The candidate with the smallest number is chosen, the rest are lost.
 unfoldable pub first_of : (ℕ → Bool) → List ℕ → ℕ
 first_of test [] = no_command
-first_of test (c ∷ cs) = if test c then c else first_of test cs
+first_of test (c ∷ cs) = when test c then c else first_of test cs
 
 unfoldable pub chosen : Settings → Status → ℕ → ℕ
 chosen s v word = first_of (candidate s v word) commands
@@ -255,17 +255,17 @@ unfoldable pub displaces : ℕ → ℕ → Bool
 displaces new old = not (eqb new no_command) && ltb new old && (not (eqb (direction new) (direction old)) || eqb new sma_off)
 
 unfoldable pub issues : Status → ℕ → Bool
-issues v new = if idle v then starts new v.position else displaces new v.command
+issues v new = when idle v then starts new v.position else displaces new v.command
 
 -- the command that is issued, if any
 unfoldable pub issued : Settings → Status → ℕ → ℕ
-issued s v word = if issues v (chosen s v word) then chosen s v word else no_command
+issued s v word = when issues v (chosen s v word) then chosen s v word else no_command
 
 -- Step 9. Issuing c: an on command clears flags 5 and 6, an off command flag 4. LZ on, LZ off and SMA set flags 4, 5, 6.
 unfoldable pub flags9 : ℕ → ℕ → ℕ
 flags9 c flags =
-    let f = if is_on c then without_bits 5 2 flags else without_bit 4 flags in
-    if eqb c lz_on then with_bit 4 f else if eqb c lz_off then with_bit 5 f else if eqb c sma_off then with_bit 6 f else f
+    let f = when is_on c then without_bits 5 2 flags else without_bit 4 flags in
+    when eqb c lz_on then with_bit 4 f else when eqb c lz_off then with_bit 5 f else when eqb c sma_off then with_bit 6 f else f
 
 -- In Reserve, OPS_1 bits 8 to 11 turn the mode to Work at LZ on, LZ off, KO on, KO off.
 unfoldable pub turns_to_work : Settings → Status → ℕ → Bool
@@ -276,11 +276,11 @@ turns_to_work s v c =
 -- A command that was under way ends displaced.
 unfoldable pub issue_status : Settings → Status → ℕ → Status
 issue_status s v c =
-    with_flags (with_mode (with_command v c (if idle v then v.end else end_displaced)) (if turns_to_work s v c then work else v.mode))
+    with_flags (with_mode (with_command v c (when idle v then v.end else end_displaced)) (when turns_to_work s v c then work else v.mode))
     (flags9 c v.flags)
 
 unfoldable pub status9 : Settings → Status → ℕ → Status
-status9 s v c = if eqb c no_command then v else issue_status s v c
+status9 s v c = when eqb c no_command then v else issue_status s v c
 
 -- The command's own output is raised unless it is SMA with OPS_1 bit 12 = 0, MU with bit 2 = 0, or off with bit 6 = 0.
 unfoldable pub raises : Settings → ℕ → Bool
@@ -292,10 +292,10 @@ raised c = record { state = own_output c; sum = 0 }
 
 -- The opposite output drops; any other stays as it is, an idle sum too.
 unfoldable pub without_opposite : Output → ℕ → Output
-without_opposite o c = if eqb o.state (opposite_output c) then dropped else o
+without_opposite o c = when eqb o.state (opposite_output c) then dropped else o
 
 unfoldable pub output9 : Settings → Output → ℕ → Output
-output9 s o c = if raises s c then raised c else without_opposite o c
+output9 s o c = when raises s c then raised c else without_opposite o c
 
 -- Sum 0.
 unfoldable pub issue : Motor → ℕ → Motor
@@ -308,7 +308,7 @@ issue m c =
     }
 
 unfoldable pub step9 : Motor → ℕ → Motor
-step9 m c = if eqb c no_command then m else issue m c
+step9 m c = when eqb c no_command then m else issue m c
 
 -- Step 10. The word becomes the previous word.
 unfoldable pub status10 : Status → ℕ → Status

@@ -6,7 +6,7 @@ use mathlib.Core.Logic.{◌⊎◌, inl, inr}
 use mathlib.Core.Bool.{Bool, true, false, ◌||◌, false≢true}
 use mathlib.Core.List.{List}
 use native.Mathlib.Omega.{arith}
-use Rattle.words.specs.Word.{if◌then◌else◌}
+use Rattle.words.specs.Word.{when◌then◌else◌}
 use Rattle.sheet.specs.Split.{field_of}
 use Rattle.sheet.specs.Lines.{Text, line, faulty}
 use Rattle.sheet.specs.Number.{number_of}
@@ -19,7 +19,7 @@ use Rattle.sheet.specs.declared.Request.TheVariants.{Refused}
 use Rattle.sheet.proofs.WordFieldLaws.{number_no_0x}
 
 no_0x : (l : List ℕ) (k : ℕ) → has0x (field_of l k) ≡ false → word_in l k ≡ number_in l k
-unfolding word_in number_in word_of if◌then◌else◌
+unfolding word_in number_in word_of when◌then◌else◌
 no_0x l k e = rw e
 
 pub neither : (a b : Bool) → (a || b) ≡ false → (a ≡ false) × (b ≡ false)
@@ -29,11 +29,11 @@ neither true b e = absurd (false≢true (sym e))
 -- ---- a line without 0x
 
 same_request : (l : List ℕ) → line_has0x l ≡ false → request_of l ≡ decimal_request l
-unfolding line_has0x request_of decimal_request motor_of input_of scan_of decimal_motor decimal_input decimal_scan if◌then◌else◌
+unfolding line_has0x request_of decimal_request motor_of input_of scan_of decimal_motor decimal_input decimal_scan when◌then◌else◌
 same_request l h = go (is_kind letter_m 6 l) refl (is_kind letter_i 3 l) refl h
   where
     go : (x : Bool) → is_kind letter_m 6 l ≡ x → (y : Bool) → is_kind letter_i 3 l ≡ y
-        → (if x then has0x (field_of l 2) || has0x (field_of l 3) else if y then has0x (field_of l 2) else false) ≡ false → request_of l ≡ decimal_request l
+        → (when x then has0x (field_of l 2) || has0x (field_of l 3) else when y then has0x (field_of l 2) else false) ≡ false → request_of l ≡ decimal_request l
     go true e y f h = let n = neither (has0x (field_of l 2)) (has0x (field_of l 3)) h in rw (e, no_0x l 2 n.0, no_0x l 3 n.1)
     go false e true f h = rw (e, f, no_0x l 2 h)
     go false e false f h = rw (e, f)
@@ -64,11 +64,11 @@ no_input (Value a) = refl
 no_input NoNumber = refl
 
 made_no_0x : (l : List ℕ) → (decimal_request l ≡ Refused → ⊥) → line_has0x l ≡ false
-unfolding line_has0x decimal_request decimal_motor decimal_input if◌then◌else◌
+unfolding line_has0x decimal_request decimal_motor decimal_input when◌then◌else◌
 made_no_0x l h = go (is_kind letter_m 6 l) refl (is_kind letter_i 3 l) refl
   where
     go : (x : Bool) → is_kind letter_m 6 l ≡ x → (y : Bool) → is_kind letter_i 3 l ≡ y
-        → (if x then has0x (field_of l 2) || has0x (field_of l 3) else if y then has0x (field_of l 2) else false) ≡ false
+        → (when x then has0x (field_of l 2) || has0x (field_of l 3) else when y then has0x (field_of l 2) else false) ≡ false
     go true e y f =
         rw (
           is_value l 2 (λ g. h (rw e (no_motor _ _ _ _ _ (inl g)))),

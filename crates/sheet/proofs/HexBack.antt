@@ -10,7 +10,7 @@ use lib.ListN.{length, take, drop, get_or, length-append, length-drop}
 use lib.Seq.{length-take-le}
 use lib.Dec.{leb, ltb}
 use borrow.Author.Tests.{lt-leb, le-leb, le-ltb, lt-ltb}
-use Rattle.words.specs.Word.{if◌then◌else◌}
+use Rattle.words.specs.Word.{when◌then◌else◌}
 use Rattle.words.proofs.Laws.{and_true, agree_at, both_le}
 use Rattle.sheet.specs.Number.{is_digit}
 use Rattle.sheet.specs.WordField.{is_hex_digit, hex_digit, all_hex_digits, hex_from, is_hex_count, hex_number, has0x, word_of, hex_digit_of, hex_digits_of, hexadecimal}
@@ -21,7 +21,7 @@ use Rattle.sheet.proofs.WordFieldLaws.{digit_small, HexSays, hex_says, hex_field
 -- ---- one digit, both ways
 
 digit_is : (d : ℕ) → d < 16 → is_hex_digit (hex_digit_of d) ≡ true
-unfolding is_hex_digit hex_digit_of is_digit if◌then◌else◌
+unfolding is_hex_digit hex_digit_of is_digit when◌then◌else◌
 digit_is d h = go (dec_lt d 10)
   where
     go : Dec (d < 10) → is_hex_digit (hex_digit_of d) ≡ true
@@ -36,15 +36,15 @@ digit_is d h = go (dec_lt d 10)
         )
 
 digit_back : (d : ℕ) → d < 16 → hex_digit (hex_digit_of d) ≡ d
-unfolding hex_digit hex_digit_of is_digit if◌then◌else◌
+unfolding hex_digit hex_digit_of is_digit when◌then◌else◌
 digit_back d h = agree_at (λ n. hex_digit (hex_digit_of n)) (λ n. n) 16 refl d h
 
 digit_print : (b : ℕ) → is_hex_digit b ≡ true → hex_digit_of (hex_digit b) ≡ b
-unfolding is_hex_digit hex_digit hex_digit_of is_digit if◌then◌else◌
+unfolding is_hex_digit hex_digit hex_digit_of is_digit when◌then◌else◌
 digit_print b h = go (leb 48 b && leb b 57) refl h
   where
     go : (t : Bool) → (leb 48 b && leb b 57) ≡ t → (t || (leb 65 b && leb b 70)) ≡ true
-        → (if ltb (if t then b - 48 else b - 55) 10 then 48 + (if t then b - 48 else b - 55) else 55 + (if t then b - 48 else b - 55)) ≡ b
+        → (when ltb (when t then b - 48 else b - 55) 10 then 48 + (when t then b - 48 else b - 55) else 55 + (when t then b - 48 else b - 55)) ≡ b
     go true e h = let w = both_le {a = 48} {b = b} {c = b} {d = 57} e in rw (lt-ltb (b - 48) 10 (omega (arith, w.1))) (omega (arith, w.0))
     go false e h = let w = both_le {a = 65} {b = b} {c = b} {d = 70} h in rw (le-ltb (b - 55) 10 (omega (arith, w.0))) (omega (arith, w.0))
 
@@ -81,7 +81,7 @@ hex_length zero n = refl
 hex_length (suc k) n = omega (arith, length-append (hex_digits_of k (n / 16)) (hex_digit_of (n % 16) ∷ []), hex_length k (n / 16))
 
 pub hex_read_back : (k n : ℕ) → 1 ≤ k → k ≤ 8 → n < 16 ^ k → word_of (hexadecimal k n) ≡ Value n
-unfolding word_of has0x hex_number is_hex_count hexadecimal if◌then◌else◌
+unfolding word_of has0x hex_number is_hex_count hexadecimal when◌then◌else◌
 hex_read_back k n h l f =
     let d = digits_say k n f in
     rw (hex_length k n, le-leb 1 k h, le-leb k 8 l, d.digits, d.value)
@@ -113,7 +113,7 @@ digits_spelt (suc k) s n h e =
     ∙ ap (λ (t : List ℕ). t ++ (hex_digit_of (n % 16) ∷ [])) (digits_spelt k p (n / 16) (length-take-le k s (omega arith)) l.rest)
 
 pub hex_print_back : (s : List ℕ) (n : ℕ) → has0x s ≡ true → word_of s ≡ Value n → s ≡ hexadecimal (length s - 2) n
-unfolding word_of hexadecimal if◌then◌else◌
+unfolding word_of hexadecimal when◌then◌else◌
 hex_print_back s n h e =
     let v = hex_says (drop 2 s) n (rw h at e) in
     hex_field s h ∙ ap (λ (t : List ℕ). 48 ∷ 120 ∷ t) (digits_spelt (length s - 2) (drop 2 s) n (length-drop 2 s) v)

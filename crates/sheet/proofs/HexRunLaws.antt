@@ -9,7 +9,7 @@ use lib.ListN.{length, take, drop, get_or, length-drop, drop_of_length-le}
 use lib.Seq.{drop-cons, drop-drop}
 use lib.Dec.{ltb}
 use borrow.Author.Tests.{le-leb, lt-leb, ltb-true, ltb-false}
-use Rattle.words.specs.Word.{if◌then◌else◌}
+use Rattle.words.specs.Word.{when◌then◌else◌}
 use Rattle.words.proofs.Laws.{and_true, either}
 use Rattle.sheet.specs.Split.{between}
 use Rattle.sheet.specs.WordField.{is_hex_digit, hex_digit, all_hex_digits, hex_from, is_hex_count, hex_number, has0x, word_of}
@@ -29,10 +29,10 @@ pub record HexHere (s : List ℕ) (i : ℕ) : Type 0 where
 
 module _ (s : List ℕ) (i : ℕ) where
   pub hex_here : hex_digit_at s i < 16 → HexHere s i
-  unfolding hex_digit_at hex_run if◌then◌else◌
+  unfolding hex_digit_at hex_run when◌then◌else◌
   hex_here h = go (ltb i (length s)) refl (is_hex_digit (get_or s i 0)) refl h
     where
-      go : (x : Bool) → ltb i (length s) ≡ x → (y : Bool) → is_hex_digit (get_or s i 0) ≡ y → (if x && y then hex_digit (get_or s i 0) else 16) < 16 → HexHere s i
+      go : (x : Bool) → ltb i (length s) ≡ x → (y : Bool) → is_hex_digit (get_or s i 0) ≡ y → (when x && y then hex_digit (get_or s i 0) else 16) < 16 → HexHere s i
       go true e true f h =
           let l = ltb-true i (length s) e in
           record { inside = l; is = f; value = rw (e, f); run = rw (drop-cons s i 0 l, f) }
@@ -40,10 +40,10 @@ module _ (s : List ℕ) (i : ℕ) where
       go false e y f h = absurd (omega arith)
 
   pub run_end : 16 ≤ hex_digit_at s i → hex_run (drop i s) ≡ []
-  unfolding hex_digit_at hex_run if◌then◌else◌
+  unfolding hex_digit_at hex_run when◌then◌else◌
   run_end h = go (ltb i (length s)) refl (is_hex_digit (get_or s i 0)) refl h
     where
-      go : (x : Bool) → ltb i (length s) ≡ x → (y : Bool) → is_hex_digit (get_or s i 0) ≡ y → 16 ≤ (if x && y then hex_digit (get_or s i 0) else 16) → hex_run (drop i s) ≡ []
+      go : (x : Bool) → ltb i (length s) ≡ x → (y : Bool) → is_hex_digit (get_or s i 0) ≡ y → 16 ≤ (when x && y then hex_digit (get_or s i 0) else 16) → hex_run (drop i s) ≡ []
       go true e true f h = absurd (omega (arith, digit_small (get_or s i 0) f))
       go true e false f h = rw (drop-cons s i 0 (ltb-true i (length s) e), f)
       go false e y f h = rw (drop_of_length-le s (ltb-false i (length s) e))
@@ -80,20 +80,20 @@ module _ {s : List ℕ} {at value i : ℕ} (r : Run s at value i) where
       }
 
   pub run_nine : hex_digit_at s i < 16 → 8 < suc i - at → hex_run_at s at ≡ Nothing
-  unfolding hex_run_at is_hex_count if◌then◌else◌
+  unfolding hex_run_at is_hex_count when◌then◌else◌
   run_nine h l =
       let n = length (hex_run (drop at s)) in
       let m : 8 < n = omega (arith, r.count, ap length (hex_here s i h).run, r.from) in
       rw (le-leb 1 n (omega arith), lt-leb n 8 m)
 
   pub run_without : 16 ≤ hex_digit_at s i → i ≡ at → hex_run_at s at ≡ Nothing
-  unfolding hex_run_at is_hex_count if◌then◌else◌
+  unfolding hex_run_at is_hex_count when◌then◌else◌
   run_without h e =
       let n = length (hex_run (drop at s)) in
       rw (lt-leb 1 n (omega (arith, r.count, ap length (run_end s i h))))
 
   pub run_said : 16 ≤ hex_digit_at s i → (i ≡ at → ⊥) → hex_run_at s at ≡ Said value i
-  unfolding hex_run_at is_hex_count hex_from if◌then◌else◌
+  unfolding hex_run_at is_hex_count hex_from when◌then◌else◌
   run_said h e =
       let n = length (hex_run (drop at s)) in
       let m : n ≡ i - at = omega (arith, r.count, ap length (run_end s i h)) in
@@ -104,35 +104,35 @@ module _ {s : List ℕ} {at value i : ℕ} (r : Run s at value i) where
 -- ---- all digits of a field
 
 run_all : (s : List ℕ) → all_hex_digits s ≡ true → hex_run s ≡ s
-unfolding hex_run all_hex_digits if◌then◌else◌
+unfolding hex_run all_hex_digits when◌then◌else◌
 run_all [] e = refl
 run_all (b ∷ s) e = let w = and_true (is_hex_digit b) (all_hex_digits s) e in rw (w.0, run_all s w.1)
 
 all_run : (s : List ℕ) → length (hex_run s) ≡ length s → all_hex_digits s ≡ true
-unfolding hex_run all_hex_digits if◌then◌else◌
+unfolding hex_run all_hex_digits when◌then◌else◌
 all_run [] e = refl
 all_run (b ∷ s) e = go (is_hex_digit b) e (all_run s)
   where
-    go : (t : Bool) → length (if t then b ∷ hex_run s else []) ≡ suc (length s) → (length (hex_run s) ≡ length s → all_hex_digits s ≡ true)
+    go : (t : Bool) → length (when t then b ∷ hex_run s else []) ≡ suc (length s) → (length (hex_run s) ≡ length s → all_hex_digits s ≡ true)
         → (t && all_hex_digits s) ≡ true
     go true e ih = ih (omega arith)
     go false e ih = absurd (omega arith)
 
 run_digits : (s : List ℕ) → all_hex_digits (hex_run s) ≡ true
-unfolding hex_run all_hex_digits if◌then◌else◌
+unfolding hex_run all_hex_digits when◌then◌else◌
 run_digits [] = refl
 run_digits (b ∷ s) = go (is_hex_digit b) refl (run_digits s)
   where
-    go : (t : Bool) → is_hex_digit b ≡ t → all_hex_digits (hex_run s) ≡ true → all_hex_digits (if t then b ∷ hex_run s else []) ≡ true
+    go : (t : Bool) → is_hex_digit b ≡ t → all_hex_digits (hex_run s) ≡ true → all_hex_digits (when t then b ∷ hex_run s else []) ≡ true
     go true e ih = rw (e, ih)
     go false e ih = refl
 
 run_take : (s : List ℕ) → take (length (hex_run s)) s ≡ hex_run s
-unfolding hex_run if◌then◌else◌
+unfolding hex_run when◌then◌else◌
 run_take [] = refl
 run_take (b ∷ s) = go (is_hex_digit b) (run_take s)
   where
-    go : (t : Bool) → take (length (hex_run s)) s ≡ hex_run s → take (length (if t then b ∷ hex_run s else [])) (b ∷ s) ≡ (if t then b ∷ hex_run s else [])
+    go : (t : Bool) → take (length (hex_run s)) s ≡ hex_run s → take (length (when t then b ∷ hex_run s else [])) (b ∷ s) ≡ (when t then b ∷ hex_run s else [])
     go true ih = ap (λ (l : List ℕ). b ∷ l) ih
     go false ih = refl
 
@@ -151,22 +151,22 @@ all_or_part s h = go (all_hex_digits s) refl
 
 module _ (s : List ℕ) where
   pub digits_none : hex_run_at s 0 ≡ Nothing → hex_number s ≡ Refused
-  unfolding hex_run_at hex_number if◌then◌else◌
+  unfolding hex_run_at hex_number when◌then◌else◌
   digits_none e = go (is_hex_count (length (hex_run s))) refl e (all_hex_digits s) refl
     where
-      go : (t : Bool) → is_hex_count (length (hex_run s)) ≡ t → (if t then Said (hex_from 0 (hex_run s)) (0 + length (hex_run s)) else Nothing) ≡ Nothing
-          → (y : Bool) → all_hex_digits s ≡ y → (if is_hex_count (length s) && y then Value (hex_from 0 s) else Refused) ≡ Refused
+      go : (t : Bool) → is_hex_count (length (hex_run s)) ≡ t → (when t then Said (hex_from 0 (hex_run s)) (0 + length (hex_run s)) else Nothing) ≡ Nothing
+          → (y : Bool) → all_hex_digits s ≡ y → (when is_hex_count (length s) && y then Value (hex_from 0 s) else Refused) ≡ Refused
       go true f e y g = let c : ◌≡◌ {A = ℕ} 0 1 = cc in absurd (omega arith)
       go false f e true g = rw (sym (ap (λ (l : List ℕ). is_hex_count (length l)) (run_all s g)) ∙ f)
       go false f e false g = rw (and-false (is_hex_count (length s)))
 
   module _ (value end : ℕ) (e : hex_run_at s 0 ≡ Said value end) where
     pub digits_whole : end ≡ length s → hex_number s ≡ Value value
-    unfolding hex_run_at hex_number if◌then◌else◌
+    unfolding hex_run_at hex_number when◌then◌else◌
     digits_whole h = go (is_hex_count (length (hex_run s))) refl e
       where
-        go : (t : Bool) → is_hex_count (length (hex_run s)) ≡ t → (if t then Said (hex_from 0 (hex_run s)) (0 + length (hex_run s)) else Nothing) ≡ Said value end
-            → (if is_hex_count (length s) && all_hex_digits s then Value (hex_from 0 s) else Refused) ≡ Value value
+        go : (t : Bool) → is_hex_count (length (hex_run s)) ≡ t → (when t then Said (hex_from 0 (hex_run s)) (0 + length (hex_run s)) else Nothing) ≡ Said value end
+            → (when is_hex_count (length s) && all_hex_digits s then Value (hex_from 0 s) else Refused) ≡ Value value
         go true f e =
             let v : hex_from 0 (hex_run s) ≡ value = cc in
             let p : 0 + length (hex_run s) ≡ end = cc in
@@ -176,11 +176,11 @@ module _ (s : List ℕ) where
         go false f e = let c : ◌≡◌ {A = ℕ} 0 1 = cc in absurd (omega arith)
 
     pub digits_part : (end ≡ length s → ⊥) → hex_number s ≡ Refused
-    unfolding hex_run_at hex_number if◌then◌else◌
+    unfolding hex_run_at hex_number when◌then◌else◌
     digits_part h = go (is_hex_count (length (hex_run s))) e
       where
-        go : (t : Bool) → (if t then Said (hex_from 0 (hex_run s)) (0 + length (hex_run s)) else Nothing) ≡ Said value end
-            → (if is_hex_count (length s) && all_hex_digits s then Value (hex_from 0 s) else Refused) ≡ Refused
+        go : (t : Bool) → (when t then Said (hex_from 0 (hex_run s)) (0 + length (hex_run s)) else Nothing) ≡ Said value end
+            → (when is_hex_count (length s) && all_hex_digits s then Value (hex_from 0 s) else Refused) ≡ Refused
         go true e =
             let p : 0 + length (hex_run s) ≡ end = cc in
             rw (all_or_part s (λ g. h (omega arith)), and-false (is_hex_count (length s)))
@@ -197,7 +197,7 @@ module _ (file : List ℕ) (at : ℕ) (x : has0x (drop at file) ≡ true) where
 
   word_said : is_hex_count (length (hex_run (drop (at + 2) file))) ≡ true
       → SaidAt word_of file at (hex_from 0 (hex_run (drop (at + 2) file))) (at + 2 + length (hex_run (drop (at + 2) file)))
-  unfolding between word_of has0x hex_number if◌then◌else◌
+  unfolding between word_of has0x hex_number when◌then◌else◌
   word_said f =
       let run = hex_run (drop (at + 2) file) in
       let n = length run in
@@ -209,10 +209,10 @@ module _ (file : List ℕ) (at : ℕ) (x : has0x (drop at file) ≡ true) where
       }
 
   pub run_word : (r : Figure) → r ≡ hex_run_at file (at + 2) → Read word_of file at r
-  unfolding Read hex_run_at if◌then◌else◌
+  unfolding Read hex_run_at when◌then◌else◌
   run_word r e = go (is_hex_count (length (hex_run (drop (at + 2) file)))) refl e
     where
       go : (t : Bool) → is_hex_count (length (hex_run (drop (at + 2) file))) ≡ t
-          → r ≡ (if t then Said (hex_from 0 (hex_run (drop (at + 2) file))) (at + 2 + length (hex_run (drop (at + 2) file))) else Nothing) → Read word_of file at r
+          → r ≡ (when t then Said (hex_from 0 (hex_run (drop (at + 2) file))) (at + 2 + length (hex_run (drop (at + 2) file))) else Nothing) → Read word_of file at r
       go true f e = rw e (word_said f)
       go false f e = rw e tt

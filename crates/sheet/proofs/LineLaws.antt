@@ -9,7 +9,7 @@ use lib.ListN.{length, take, drop, get_or, length-drop, drop_of_length-le}
 use lib.Seq.{length-take-le, get_or-drop, drop-drop}
 use lib.Dec.{ltb}
 use borrow.Author.Tests.{ne_eqb, lt-ltb, le-ltb, ltb-true, ltb-false}
-use Rattle.words.specs.Word.{if◌then◌else◌}
+use Rattle.words.specs.Word.{when◌then◌else◌}
 use Rattle.words.proofs.Laws.{both_le}
 use Rattle.sheet.specs.Split.{LF, split, index_of, between}
 use Rattle.sheet.specs.Lines.{found_lf, longest, Text, line, faulty, well_sized, text_of, texts_of, lines_of, first_line, line_at}
@@ -32,24 +32,24 @@ pub record FirstLF (file : List ℕ) (at i : ℕ) : Type 0 where
 abbrev pub NoLF : List ℕ → ℕ → Type 0
 NoLF file at = (k : ℕ) → at ≤ k → k < length file → get_or file k 0 ≡ LF → ⊥
 
-found·at : (t : Bool) (i j : ℕ) → (if t then At i else Nothing) ≡ At j → (t ≡ true) × (i ≡ j)
-unfolding if◌then◌else◌
+found·at : (t : Bool) (i j : ℕ) → (when t then At i else Nothing) ≡ At j → (t ≡ true) × (i ≡ j)
+unfolding when◌then◌else◌
 found·at true i j e = (refl, (cc))
 found·at false i j e = let z : ◌≡◌ {A = ℕ} 0 1 = cc in absurd (omega arith)
 
-found·none : (t : Bool) (i : ℕ) → (if t then At i else Nothing) ≡ Nothing → t ≡ false
-unfolding if◌then◌else◌
+found·none : (t : Bool) (i : ℕ) → (when t then At i else Nothing) ≡ Nothing → t ≡ false
+unfolding when◌then◌else◌
 found·none true i e = let z : ◌≡◌ {A = ℕ} 0 1 = cc in absurd (omega arith)
 found·none false i e = refl
 
 module _ (file : List ℕ) (at : ℕ) where
   -- by the place of the first LF, or the end
   pub found_by : (i : ℕ) → i ≡ at + index_of LF (drop at file) → i < length file → found_lf file at ≡ At i
-  unfolding found_lf if◌then◌else◌
+  unfolding found_lf when◌then◌else◌
   found_by i e h = rw (← e, lt-ltb i (length file) h)
 
   pub nothing_by : (i : ℕ) → i ≡ at + index_of LF (drop at file) → length file ≤ i → found_lf file at ≡ Nothing
-  unfolding found_lf if◌then◌else◌
+  unfolding found_lf when◌then◌else◌
   nothing_by i e h = rw (← e, le-ltb i (length file) h)
 
   pub found_place : (i : ℕ) → found_lf file at ≡ At i → (at + index_of LF (drop at file) ≡ i) × (i < length file)
@@ -115,7 +115,7 @@ module _ (file : List ℕ) (at : ℕ) where
 -- ---- the first line of a list of bytes
 
 pub lines_none : lines_of [] ≡ []
-unfolding lines_of split texts_of if◌then◌else◌
+unfolding lines_of split texts_of when◌then◌else◌
 lines_none = refl
 
 pub texts_more : (ps qs : List (List ℕ)) → 0 < length qs → texts_of (ps ++ qs) ≡ map text_of ps ++ texts_of qs
@@ -137,7 +137,7 @@ unfolding lines_of
 lines_part l s h = rw (split_part LF l s h) (texts_more (l ∷ []) (split LF s) (parts_pos LF s))
 
 pub lines_open : (s : List ℕ) → 0 < length s → length s ≤ index_of LF s → lines_of s ≡ faulty ∷ []
-unfolding lines_of texts_of if◌then◌else◌
+unfolding lines_of texts_of when◌then◌else◌
 lines_open s p h = rw (split_none LF s h, ne_eqb (length s) 0 (λ e. omega arith))
 
 -- ---- the lines from a place on, by what the search finds there
@@ -176,11 +176,11 @@ module _ (file : List ℕ) (at : ℕ) where
 
   module _ (end : ℕ) (e : found_lf file at ≡ At end) where
     lines_whole : well_sized (end - at) ≡ true → lines_of (drop at file) ≡ line (between at end file) ∷ lines_of (drop (suc end) file)
-    unfolding text_of if◌then◌else◌
+    unfolding text_of when◌then◌else◌
     lines_whole f = lines_found end e ∙ rw (between_size end e, f)
 
     lines_faulty : well_sized (end - at) ≡ false → lines_of (drop at file) ≡ faulty ∷ lines_of (drop (suc end) file)
-    unfolding text_of if◌then◌else◌
+    unfolding text_of when◌then◌else◌
     lines_faulty f = lines_found end e ∙ rw (between_size end e, f)
 
     pub line_whole : well_sized (end - at) ≡ true → line_at file at ≡ Until end

@@ -9,7 +9,7 @@ use lib.ListN.{length, drop, get_or, drop_of_length-le}
 use lib.Seq.{drop-cons}
 use lib.Dec.{eqb, leb, ltb}
 use borrow.Author.Tests.{le-leb, lt-leb, eq-eqb, ne_eqb, le-ltb, lt-ltb, leb-true, eqb-true, eqb-false}
-use Rattle.words.specs.Word.{if◌then◌else◌}
+use Rattle.words.specs.Word.{when◌then◌else◌}
 use Rattle.words.proofs.Laws.{and_true, both_le}
 use Rattle.sheet.specs.Split.{index_of}
 use Rattle.sheet.specs.Number.{largest, is_digit, all_digits, value_from, digits_number, leading_zero, number_of}
@@ -73,41 +73,41 @@ first_digit (x ∷ s) e h = (digit_range x (and_true (is_digit x) (all_digits s)
 
 -- a byte that is no digit is not among them
 pub digits_free : (b : ℕ) (s : List ℕ) → is_digit b ≡ false → all_digits s ≡ true → index_of b s ≡ length s
-unfolding index_of all_digits if◌then◌else◌
+unfolding index_of all_digits when◌then◌else◌
 digits_free b [] f e = refl
 digits_free b (x ∷ s) f e = let w = and_true (is_digit x) (all_digits s) e in go (eqb x b) refl w.0 (digits_free b s f w.1)
   where
-    go : (t : Bool) → eqb x b ≡ t → is_digit x ≡ true → index_of b s ≡ length s → (if t then 0 else suc (index_of b s)) ≡ suc (length s)
+    go : (t : Bool) → eqb x b ≡ t → is_digit x ≡ true → index_of b s ≡ length s → (when t then 0 else suc (index_of b s)) ≡ suc (length s)
     go true g d ih = absurd (false≢true (sym f ∙ ap is_digit (sym (eqb-true x b g)) ∙ d))
     go false g d ih = ap suc ih
 
 -- ---- what a field of digits says
 
 pub no_digits : (s : List ℕ) → all_digits s ≡ false → digits_number s ≡ Refused
-unfolding digits_number if◌then◌else◌
+unfolding digits_number when◌then◌else◌
 no_digits s e = rw e
 
 pub too_large : (s : List ℕ) → largest < value_from 0 s → digits_number s ≡ Refused
-unfolding digits_number if◌then◌else◌
+unfolding digits_number when◌then◌else◌
 too_large s h = rw (lt-leb (value_from 0 s) largest h, and-false (all_digits s))
 
 pub in_range_lem : (s : List ℕ) (v : ℕ) → all_digits s ≡ true → value_from 0 s ≡ v → v ≤ largest → digits_number s ≡ Value v
-unfolding digits_number if◌then◌else◌
+unfolding digits_number when◌then◌else◌
 in_range_lem s v d e h = rw (d, e, le-leb v largest h)
 
 -- ---- what a field says, by its first byte
 
 pub empty_number : (s : List ℕ) → length s ≡ 0 → number_of s ≡ Refused
-unfolding number_of if◌then◌else◌
+unfolding number_of when◌then◌else◌
 empty_number s e = rw (eq-eqb (length s) 0 e)
 
 module _ (s : List ℕ) (some : length s ≡ 0 → ⊥) where
   pub zero_number : leading_zero s ≡ true → number_of s ≡ Refused
-  unfolding number_of if◌then◌else◌
+  unfolding number_of when◌then◌else◌
   zero_number e = rw (ne_eqb (length s) 0 some, e)
 
   pub plain_number : leading_zero s ≡ false → number_of s ≡ digits_number s
-  unfolding number_of if◌then◌else◌
+  unfolding number_of when◌then◌else◌
   plain_number e = rw (ne_eqb (length s) 0 some, e)
 
 -- ---- a field says a number if it spells it: digits, at least one, and no 0 in front of others
@@ -129,9 +129,9 @@ spells_number {n} {s} p h =
     go (no l) = rw (le-ltb 1 (length s) (omega arith)) (and-false (eqb (get_or s 0 0) 48))
 
 -- the tests that led to a number
-tests : (e z d l : Bool) (v n : ℕ) → (if e || z then Refused else if d && l then Value v else Refused) ≡ Value n
+tests : (e z d l : Bool) (v n : ℕ) → (when e || z then Refused else when d && l then Value v else Refused) ≡ Value n
     → (e ≡ false) × (z ≡ false) × (d ≡ true) × (l ≡ true) × (v ≡ n)
-unfolding if◌then◌else◌
+unfolding when◌then◌else◌
 tests false false true true v n e = (refl, refl, refl, refl, (cc))
 tests true z d l v n e = let c : ◌≡◌ {A = ℕ} 0 1 = cc in absurd (omega arith)
 tests false true d l v n e = let c : ◌≡◌ {A = ℕ} 0 1 = cc in absurd (omega arith)

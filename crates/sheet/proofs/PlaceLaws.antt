@@ -10,7 +10,7 @@ use lib.Seq.{length-take-le, drop-cons, take-suc, drop-drop, take_at, get_or-dro
 use lib.Dec.{eqb, leb, ltb}
 use borrow.Author.Tests.{eq-eqb, eqb-true, lt-ltb, ltb-true}
 use Rattle.words.proofs.Laws.{and_true}
-use Rattle.words.specs.Word.{if◌then◌else◌}
+use Rattle.words.specs.Word.{when◌then◌else◌}
 use Rattle.sheet.specs.Split.{LF, comma, joined, index_of, between, field_of, field_count}
 use Rattle.sheet.specs.Lines.{longest, line, well_sized, text_of, first_line, line_at}
 use Rattle.sheet.specs.Number.{largest, is_digit, all_digits, value_from, digits_number, leading_zero, number_of}
@@ -111,7 +111,7 @@ module _ (file : List ℕ) (at : ℕ) where
 
   -- a 0 alone
   pub zero_number : is_at file at 48 ≡ true → SaidAt number_of file at 0 (at + 1)
-  unfolding between number_of digits_number leading_zero all_digits is_digit value_from if◌then◌else◌
+  unfolding between number_of digits_number leading_zero all_digits is_digit value_from when◌then◌else◌
   zero_number e =
       let n : at + 1 - at ≡ 1 = omega arith in
       record { within = omega (arith, (byte_at file at 48 e).0); says = rw (n, drop_byte file at 48 e) }
@@ -179,7 +179,7 @@ ended_inside file at end e = (byte_at file end LF (ended file at end e).0).0
 module _ (file l : List ℕ) (at end : ℕ) (parts : drop at file ≡ l ++ drop end file) (some : 0 < length l) (size : length l ≡ end - at)
     (e : ends_line file at end ≡ true) where
   line_text : text_of l ≡ line l
-  unfolding text_of well_sized if◌then◌else◌
+  unfolding text_of well_sized when◌then◌else◌
   line_text = rw (lt-ltb 0 (length l) some, size, (ended file at end e).1)
 
   line_until : index_of LF l ≡ length l → line_at file at ≡ Until end
@@ -200,18 +200,18 @@ module _ (file l : List ℕ) (at end : ℕ) (parts : drop at file ≡ l ++ drop 
 
 pub scan_request : (d : List ℕ) (value : ℕ) → Free comma ((letter_s ∷ []) ∷ d ∷ []) → number_of d ≡ Value value
     → request_of (joined comma ((letter_s ∷ []) ∷ d ∷ [])) ≡ Scan value
-unfolding request_of is_kind letter_of field_of field_count scan_of scan_from number_in with_value if◌then◌else◌
+unfolding request_of is_kind letter_of field_of field_count scan_of scan_from number_in with_value when◌then◌else◌
 scan_request d value f e = rw (split_joined f, e)
 
 pub input_request : (d g : List ℕ) (number word : ℕ) → Free comma ((letter_i ∷ []) ∷ d ∷ g ∷ []) → number_of d ≡ Value number
     → word_of g ≡ Value word → request_of (joined comma ((letter_i ∷ []) ∷ d ∷ g ∷ [])) ≡ Input number word
-unfolding request_of is_kind letter_of field_of field_count input_of input_from number_in word_in with_value if◌then◌else◌
+unfolding request_of is_kind letter_of field_of field_count input_of input_from number_in word_in with_value when◌then◌else◌
 input_request d g number word f e h = rw (split_joined f, e, h)
 
 pub motor_request : (a b c d e : List ℕ) (number ops1 ops2 w u : ℕ) → Free comma ((letter_m ∷ []) ∷ a ∷ b ∷ c ∷ d ∷ e ∷ []) → number_of a ≡ Value number
     → word_of b ≡ Value ops1 → word_of c ≡ Value ops2 → number_of d ≡ Value w → number_of e ≡ Value u
     → request_of (joined comma ((letter_m ∷ []) ∷ a ∷ b ∷ c ∷ d ∷ e ∷ [])) ≡ Motor number ops1 ops2 w u
-unfolding request_of is_kind letter_of field_of field_count motor_of motor_from number_in word_in with_value if◌then◌else◌
+unfolding request_of is_kind letter_of field_of field_count motor_of motor_from number_in word_in with_value when◌then◌else◌
 motor_request a b c d e number ops1 ops2 w u f g h i j k = rw (split_joined f, g, h, i, j, k)
 
 comma_no_lf : comma ≡ LF → ⊥
@@ -220,7 +220,7 @@ comma_no_lf e = omega arith
 module _ (file : List ℕ) (at : ℕ) where
   pub scan_next : {value end : ℕ} → begins_with file at letter_s ≡ true → SaidAt number_of file (at + 2) value end → ends_line file at end ≡ true
       → next_at file at ≡ Taken (Scan value) (end + 1)
-  unfolding joined index_of if◌then◌else◌
+  unfolding joined index_of when◌then◌else◌
   scan_next {value} {end} b n e =
       let d : List ℕ = between (at + 2) end file in
       let p = parted (number_said n) in
@@ -236,7 +236,7 @@ module _ (file : List ℕ) (at : ℕ) where
   pub input_next : {number parting word end : ℕ} → begins_with file at letter_i ≡ true → SaidAt number_of file (at + 2) number parting
       → is_at file parting comma ≡ true → SaidAt word_of file (parting + 1) word end → ends_line file at end ≡ true
       → next_at file at ≡ Taken (Input number word) (end + 1)
-  unfolding joined index_of if◌then◌else◌
+  unfolding joined index_of when◌then◌else◌
   input_next {number} {parting} {word} {end} b n c m e =
       let d : List ℕ = between (at + 2) parting file in
       let g : List ℕ = between (parting + 1) end file in

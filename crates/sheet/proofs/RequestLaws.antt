@@ -12,7 +12,7 @@ use lib.Seq.{get_or-drop, get_or-take}
 use borrow.Author.Tests.{eqb-true}
 use Rattle.sheet.specs.Split.{comma, index_of, between, field_of}
 use Rattle.sheet.specs.Lines.{Text, faulty, lines_of}
-use Rattle.words.specs.Word.{if◌then◌else◌}
+use Rattle.words.specs.Word.{when◌then◌else◌}
 use Rattle.words.proofs.Laws.{and_true}
 use Rattle.sheet.specs.Grammar.{letter_m, letter_i, letter_s, letter_of, is_kind, number_in, word_in, with_value, motor_from, input_from, scan_from, motor_of, input_of, scan_of, request_of, text_request, requests_of, taken_at, next_at}
 use Rattle.sheet.specs.declared.Number.{Number}
@@ -96,7 +96,7 @@ pub data Says (l : List ℕ) : Request → Type 0 where
   nothing : Says l Refused
 
 pub says : (l : List ℕ) → Says l (request_of l)
-unfolding request_of motor_of input_of scan_of motor_from input_from scan_from with_value if◌then◌else◌
+unfolding request_of motor_of input_of scan_of motor_from input_from scan_from with_value when◌then◌else◌
 says l = go (is_kind letter_m 6 l) refl (is_kind letter_i 3 l) refl (is_kind letter_s 2 l) refl
   where
     go_motor : is_kind letter_m 6 l ≡ true → (a : Number) → number_in l 1 ≡ a → (b : Number) → word_in l 2 ≡ b → (c : Number) → word_in l 3 ≡ c
@@ -118,7 +118,7 @@ says l = go (is_kind letter_m 6 l) refl (is_kind letter_i 3 l) refl (is_kind let
     go_scan k NoNumber f = nothing
 
     go : (x : Bool) → is_kind letter_m 6 l ≡ x → (y : Bool) → is_kind letter_i 3 l ≡ y → (z : Bool) → is_kind letter_s 2 l ≡ z
-        → Says l (if x then motor_of l else if y then input_of l else if z then scan_of l else Refused)
+        → Says l (when x then motor_of l else when y then input_of l else when z then scan_of l else Refused)
     go true e y f z g = go_motor e (number_in l 1) refl (word_in l 2) refl (word_in l 3) refl (number_in l 4) refl (number_in l 5) refl
     go false e true f z g = go_input f (number_in l 1) refl (word_in l 2) refl
     go false e false f true g = go_scan g (number_in l 1) refl
@@ -127,10 +127,10 @@ says l = go (is_kind letter_m 6 l) refl (is_kind letter_i 3 l) refl (is_kind let
 -- ---- the line of a request begins with its letter
 
 first_byte : (l : List ℕ) (letter : ℕ) → letter_of (field_of l 0) ≡ letter → (letter ≡ 0 → ⊥) → get_or l 0 0 ≡ letter
-unfolding letter_of if◌then◌else◌
+unfolding letter_of when◌then◌else◌
 first_byte l letter e n = go (eqb (length (field_of l 0)) 1) refl e
   where
-    go : (b : Bool) → eqb (length (field_of l 0)) 1 ≡ b → (if b then get_or (field_of l 0) 0 0 else 0) ≡ letter → get_or l 0 0 ≡ letter
+    go : (b : Bool) → eqb (length (field_of l 0)) 1 ≡ b → (when b then get_or (field_of l 0) 0 0 else 0) ≡ letter → get_or l 0 0 ≡ letter
     go true f g =
         let one = eqb-true (length (field_of l 0)) 1 f in
         let some : 0 < index_of comma l = omega (arith, one, ap length (first_field l), length-take (index_of comma l) l) in

@@ -10,7 +10,7 @@ use lib.ListN.{length, take, drop, get_or, length-append, length-drop, drop_of_l
 use lib.Seq.{drop-cons, take_all, take-nil, take-suc}
 use lib.Dec.{eqb}
 use borrow.Author.Tests.{eq-eqb, ne_eqb, eqb-true, eqb-false}
-use Rattle.words.specs.Word.{if◌then◌else◌}
+use Rattle.words.specs.Word.{when◌then◌else◌}
 use Rattle.words.proofs.Laws.{either}
 use Rattle.sheet.specs.Split.{comma, split, join_first, joined, index_of, between, field_of}
 
@@ -18,11 +18,11 @@ use Rattle.sheet.specs.Split.{comma, split, join_first, joined, index_of, betwee
 
 module _ (b : ℕ) (s : List ℕ) (i : ℕ) (h : i < length s) where
   pub index_hit : get_or s i 0 ≡ b → index_of b (drop i s) ≡ 0
-  unfolding index_of if◌then◌else◌
+  unfolding index_of when◌then◌else◌
   index_hit e = rw (drop-cons s i 0 h, eq-eqb (get_or s i 0) b e)
 
   pub index_miss : (get_or s i 0 ≡ b → ⊥) → index_of b (drop i s) ≡ suc (index_of b (drop (suc i) s))
-  unfolding index_of if◌then◌else◌
+  unfolding index_of when◌then◌else◌
   index_miss e = rw (drop-cons s i 0 h, ne_eqb (get_or s i 0) b e)
 
 pub index_past : (b : ℕ) (s : List ℕ) (i : ℕ) → length s ≤ i → index_of b (drop i s) ≡ 0
@@ -36,33 +36,33 @@ index_le b (x ∷ s) = either (λ (n : ℕ). n ≤ suc (length s)) _ (omega arit
 
 -- it is a b, and there is none before it
 pub index_is : (b : ℕ) (s : List ℕ) → index_of b s < length s → get_or s (index_of b s) 0 ≡ b
-unfolding index_of if◌then◌else◌
+unfolding index_of when◌then◌else◌
 index_is b [] h = absurd (omega arith)
 index_is b (x ∷ s) h = go (eqb x b) refl h (index_is b s)
   where
-    go : (t : Bool) → eqb x b ≡ t → (if t then 0 else suc (index_of b s)) < suc (length s) → (index_of b s < length s → get_or s (index_of b s) 0 ≡ b)
-        → get_or (x ∷ s) (if t then 0 else suc (index_of b s)) 0 ≡ b
+    go : (t : Bool) → eqb x b ≡ t → (when t then 0 else suc (index_of b s)) < suc (length s) → (index_of b s < length s → get_or s (index_of b s) 0 ≡ b)
+        → get_or (x ∷ s) (when t then 0 else suc (index_of b s)) 0 ≡ b
     go true e l ih = eqb-true x b e
     go false e l ih = ih (omega arith)
 
 pub index_first : (b : ℕ) (s : List ℕ) (k : ℕ) → k < index_of b s → get_or s k 0 ≡ b → ⊥
-unfolding index_of if◌then◌else◌
+unfolding index_of when◌then◌else◌
 index_first b [] k h e = omega arith
 index_first b (x ∷ s) k h e = go (eqb x b) refl k h e (index_first b s)
   where
-    go : (t : Bool) → eqb x b ≡ t → (k : ℕ) → k < (if t then 0 else suc (index_of b s)) → get_or (x ∷ s) k 0 ≡ b
+    go : (t : Bool) → eqb x b ≡ t → (k : ℕ) → k < (when t then 0 else suc (index_of b s)) → get_or (x ∷ s) k 0 ≡ b
         → ((k : ℕ) → k < index_of b s → get_or s k 0 ≡ b → ⊥) → ⊥
     go true f k l e ih = omega arith
     go false f zero l e ih = eqb-false x b f e
     go false f (suc k) l e ih = ih k (omega arith) e
 
 pub index_append : (b : ℕ) (p q : List ℕ) → index_of b p ≡ length p → index_of b (p ++ q) ≡ length p + index_of b q
-unfolding index_of if◌then◌else◌
+unfolding index_of when◌then◌else◌
 index_append b [] q h = omega arith
 index_append b (x ∷ p) q h = go (eqb x b) h (index_append b p q)
   where
-    go : (t : Bool) → (if t then 0 else suc (index_of b p)) ≡ suc (length p) → (index_of b p ≡ length p → index_of b (p ++ q) ≡ length p + index_of b q)
-        → (if t then 0 else suc (index_of b (p ++ q))) ≡ suc (length p) + index_of b q
+    go : (t : Bool) → (when t then 0 else suc (index_of b p)) ≡ suc (length p) → (index_of b p ≡ length p → index_of b (p ++ q) ≡ length p + index_of b q)
+        → (when t then 0 else suc (index_of b (p ++ q))) ≡ suc (length p) + index_of b q
     go true e ih = absurd (omega arith)
     go false e ih = omega (arith, ih (omega arith))
 
@@ -70,25 +70,25 @@ index_append b (x ∷ p) q h = go (eqb x b) h (index_append b p q)
 
 -- with a b in the list, the first part is what stands before it, and what follows it is parted in turn
 pub split_hit : (b : ℕ) (s : List ℕ) → index_of b s < length s → split b s ≡ take (index_of b s) s ∷ split b (drop (suc (index_of b s)) s)
-unfolding index_of split if◌then◌else◌ join_first
+unfolding index_of split when◌then◌else◌ join_first
 split_hit b [] h = absurd (omega arith)
 split_hit b (x ∷ s) h = go (eqb x b) (split_hit b s) h
   where
     go : (t : Bool) → (index_of b s < length s → split b s ≡ take (index_of b s) s ∷ split b (drop (suc (index_of b s)) s))
-        → (if t then 0 else suc (index_of b s)) < suc (length s)
-        → (if t then [] ∷ split b s else join_first x (split b s))
-        ≡ take (if t then 0 else suc (index_of b s)) (x ∷ s) ∷ split b (drop (suc (if t then 0 else suc (index_of b s))) (x ∷ s))
+        → (when t then 0 else suc (index_of b s)) < suc (length s)
+        → (when t then [] ∷ split b s else join_first x (split b s))
+        ≡ take (when t then 0 else suc (index_of b s)) (x ∷ s) ∷ split b (drop (suc (when t then 0 else suc (index_of b s))) (x ∷ s))
     go true ih l = refl
     go false ih l = ap (join_first x) (ih (omega arith))
 
 -- with none, the list is its one part
 pub split_none : (b : ℕ) (s : List ℕ) → length s ≤ index_of b s → split b s ≡ s ∷ []
-unfolding index_of split if◌then◌else◌ join_first
+unfolding index_of split when◌then◌else◌ join_first
 split_none b [] h = refl
 split_none b (x ∷ s) h = go (eqb x b) (split_none b s) h
   where
-    go : (t : Bool) → (length s ≤ index_of b s → split b s ≡ s ∷ []) → suc (length s) ≤ (if t then 0 else suc (index_of b s))
-        → (if t then [] ∷ split b s else join_first x (split b s)) ≡ (x ∷ s) ∷ []
+    go : (t : Bool) → (length s ≤ index_of b s → split b s ≡ s ∷ []) → suc (length s) ≤ (when t then 0 else suc (index_of b s))
+        → (when t then [] ∷ split b s else join_first x (split b s)) ≡ (x ∷ s) ∷ []
     go true ih l = absurd (omega arith)
     go false ih l = ap (join_first x) (ih (omega arith))
 
@@ -102,12 +102,12 @@ parts_pos b s = go (dec_lt (index_of b s) (length s))
 
 -- a list is made of its parts: the fields of a line say the line, and the lines of a file the file
 pub joined_split : (b : ℕ) (s : List ℕ) → joined b (split b s) ≡ s
-unfolding split joined join_first if◌then◌else◌
+unfolding split joined join_first when◌then◌else◌
 joined_split b [] = refl
 joined_split b (x ∷ s) = go (eqb x b) refl (split b s) (parts_pos b s) (joined_split b s)
   where
     go : (t : Bool) → eqb x b ≡ t → (ps : List (List ℕ)) → 0 < length ps → joined b ps ≡ s
-        → joined b (if t then [] ∷ ps else join_first x ps) ≡ x ∷ s
+        → joined b (when t then [] ∷ ps else join_first x ps) ≡ x ∷ s
     go t e [] h f = absurd (omega arith)
     go true e (p ∷ ps) h f = rw (f, eqb-true x b e)
     go false e (p ∷ []) h f = ap (λ (l : List ℕ). x ∷ l) f
@@ -120,12 +120,12 @@ first_more x [] qs h = absurd (omega arith)
 first_more x (p ∷ ps) qs h = refl
 
 pub split_more : (b : ℕ) (p q : List ℕ) → split b (p ++ b ∷ q) ≡ split b p ++ split b q
-unfolding split if◌then◌else◌
+unfolding split when◌then◌else◌
 split_more b [] q = rw (eq-eqb b b refl)
 split_more b (x ∷ p) q = go (eqb x b) (split_more b p q)
   where
     go : (t : Bool) → split b (p ++ b ∷ q) ≡ split b p ++ split b q
-        → (if t then [] ∷ split b (p ++ b ∷ q) else join_first x (split b (p ++ b ∷ q))) ≡ (if t then [] ∷ split b p else join_first x (split b p)) ++ split b q
+        → (when t then [] ∷ split b (p ++ b ∷ q) else join_first x (split b (p ++ b ∷ q))) ≡ (when t then [] ∷ split b p else join_first x (split b p)) ++ split b q
     go true e = rw e
     go false e = rw e (first_more x (split b p) (split b q) (parts_pos b p))
 
@@ -146,7 +146,7 @@ split_joined {b} {p} (free_more h (free_more {p = q} {ps = qs} g f)) =
 
 -- and none in what is joined of them with another byte
 pub free_joined : {b c : ℕ} {ps : List (List ℕ)} → (c ≡ b → ⊥) → Free b ps → index_of b (joined c ps) ≡ length (joined c ps)
-unfolding joined index_of if◌then◌else◌
+unfolding joined index_of when◌then◌else◌
 free_joined n free_none = refl
 free_joined n (free_more h free_none) = h
 free_joined {b} {c} n (free_more {p = p} h (free_more {p = q} {ps = qs} g f)) =
@@ -156,11 +156,11 @@ free_joined {b} {c} n (free_more {p = p} h (free_more {p = q} {ps = qs} g f)) =
 -- one byte passed: a part more if it is b
 module _ (b : ℕ) (s : List ℕ) (i : ℕ) (h : i < length s) where
   pub parts_hit : get_or s i 0 ≡ b → length (split b (drop i s)) ≡ suc (length (split b (drop (suc i) s)))
-  unfolding split if◌then◌else◌
+  unfolding split when◌then◌else◌
   parts_hit e = rw (drop-cons s i 0 h, eq-eqb (get_or s i 0) b e)
 
   pub parts_miss : (get_or s i 0 ≡ b → ⊥) → length (split b (drop i s)) ≡ length (split b (drop (suc i) s))
-  unfolding split if◌then◌else◌ join_first
+  unfolding split when◌then◌else◌ join_first
   parts_miss e = rw (drop-cons s i 0 h, ne_eqb (get_or s i 0) b e) (joined (get_or s i 0) (split b (drop (suc i) s)) (parts_pos b (drop (suc i) s)))
     where
       joined : (x : ℕ) (ps : List (List ℕ)) → 0 < length ps → length (join_first x ps) ≡ length ps

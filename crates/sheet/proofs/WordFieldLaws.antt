@@ -8,7 +8,7 @@ use native.Mathlib.Nat.{pow-le-pow_right}
 use lib.ListN.{length, drop, get_or}
 use lib.Dec.{eqb, leb, lit<}
 use borrow.Author.Tests.{lt-leb, ne_eqb, eqb-true}
-use Rattle.words.specs.Word.{if◌then◌else◌}
+use Rattle.words.specs.Word.{when◌then◌else◌}
 use Rattle.words.proofs.Laws.{and_true, both_le}
 use Rattle.sheet.specs.Split.{index_of}
 use Rattle.sheet.specs.Number.{is_digit, number_of}
@@ -19,10 +19,10 @@ use Rattle.sheet.proofs.NumberLaws.{number_spells, digits_free}
 -- ---- digits
 
 pub digit_small : (b : ℕ) → is_hex_digit b ≡ true → hex_digit b < 16
-unfolding is_hex_digit hex_digit is_digit if◌then◌else◌
+unfolding is_hex_digit hex_digit is_digit when◌then◌else◌
 digit_small b h = go (leb 48 b && leb b 57) refl h
   where
-    go : (t : Bool) → (leb 48 b && leb b 57) ≡ t → (t || (leb 65 b && leb b 70)) ≡ true → (if t then b - 48 else b - 55) < 16
+    go : (t : Bool) → (leb 48 b && leb b 57) ≡ t → (t || (leb 65 b && leb b 70)) ≡ true → (when t then b - 48 else b - 55) < 16
     go true e h = omega (arith, (both_le {a = 48} {b = b} {c = b} {d = 57} e).1)
     go false e h = omega (arith, (both_le {a = 65} {b = b} {c = b} {d = 70} h).1)
 
@@ -59,7 +59,7 @@ number_no_0x s n e = go (has0x s) refl
         absurd (omega (arith, ap (λ (t : List ℕ). get_or t 0 0) g, l (omega (arith, ap length g))))
 
 pub number_word : (s : List ℕ) (n : ℕ) → number_of s ≡ Value n → word_of s ≡ Value n
-unfolding word_of if◌then◌else◌
+unfolding word_of when◌then◌else◌
 number_word s n e = rw (number_no_0x s n e) e
 
 -- ---- what the field of a word is: a number, or 0x and digits
@@ -69,10 +69,10 @@ pub record HexSays (s : List ℕ) (n : ℕ) : Type 0 where
   pub value : hex_from 0 s ≡ n
 
 pub hex_says : (s : List ℕ) (n : ℕ) → hex_number s ≡ Value n → HexSays s n
-unfolding hex_number if◌then◌else◌
+unfolding hex_number when◌then◌else◌
 hex_says s n e = go (is_hex_count (length s)) (all_hex_digits s) refl e
   where
-    go : (t d : Bool) → all_hex_digits s ≡ d → (if t && d then Value (hex_from 0 s) else Refused) ≡ Value n → HexSays s n
+    go : (t d : Bool) → all_hex_digits s ≡ d → (when t && d then Value (hex_from 0 s) else Refused) ≡ Value n → HexSays s n
     go true true f e = record { digits = f; value = cc }
     go true false f e = let c : ◌≡◌ {A = ℕ} 0 1 = cc in absurd (omega arith)
     go false d f e = let c : ◌≡◌ {A = ℕ} 0 1 = cc in absurd (omega arith)
@@ -82,10 +82,10 @@ data WordIs (s : List ℕ) (n : ℕ) : Type 0 where
   hex : s ≡ 48 ∷ 120 ∷ drop 2 s → HexSays (drop 2 s) n → WordIs s n
 
 word_is : (s : List ℕ) (n : ℕ) → word_of s ≡ Value n → WordIs s n
-unfolding word_of if◌then◌else◌
+unfolding word_of when◌then◌else◌
 word_is s n e = go (has0x s) refl e
   where
-    go : (t : Bool) → has0x s ≡ t → (if t then hex_number (drop 2 s) else number_of s) ≡ Value n → WordIs s n
+    go : (t : Bool) → has0x s ≡ t → (when t then hex_number (drop 2 s) else number_of s) ≡ Value n → WordIs s n
     go false f e = decimal e
     go true f e = hex (hex_field s f) (hex_says (drop 2 s) n e)
 
@@ -103,14 +103,14 @@ unfolding is_hex_digit is_digit
 low b h = rw (lt-leb 48 b h, lt-leb 65 b (omega arith))
 
 hex_free : (b : ℕ) (s : List ℕ) → is_hex_digit b ≡ false → all_hex_digits s ≡ true → index_of b s ≡ length s
-unfolding all_hex_digits index_of if◌then◌else◌
+unfolding all_hex_digits index_of when◌then◌else◌
 hex_free b [] f e = refl
 hex_free b (x ∷ s) f e =
     let w = and_true (is_hex_digit x) (all_hex_digits s) e in
     rw (ne_eqb x b (λ g. false≢true (sym f ∙ ap is_hex_digit (sym g) ∙ w.0))) (ap suc (hex_free b s f w.1))
 
 pub word_free : (b : ℕ) (s : List ℕ) (n : ℕ) → b < 48 → word_of s ≡ Value n → index_of b s ≡ length s
-unfolding index_of is_digit if◌then◌else◌
+unfolding index_of is_digit when◌then◌else◌
 word_free b s n h e = go (word_is s n e)
   where
     go : WordIs s n → index_of b s ≡ length s

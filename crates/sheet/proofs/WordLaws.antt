@@ -10,7 +10,7 @@ use lib.Dec.{eqb, lit<}
 use lib.ListN.{length, take, drop, get_or, length-drop, take-append-drop}
 use lib.Seq.{length-take-le, drop-cons, drop-drop}
 use borrow.Author.Tests.{eq-eqb, ne_eqb, eqb-true, eqb-false}
-use Rattle.words.specs.Word.{if◌then◌else◌}
+use Rattle.words.specs.Word.{when◌then◌else◌}
 use Rattle.words.proofs.Laws.{agree_at}
 use Rattle.sheet.specs.Split.{LF, index_of, between}
 use Rattle.sheet.specs.WordBytes.{bytes_of, contains}
@@ -26,9 +26,9 @@ abbrev pub marks : (lf low w : ℕ) → ℕ
 marks lf low w = bit_or (bit_or (bit_xor (bit_and w low) lf + low) w) low
 
 -- one byte: all bits are set exactly if it is not LF
-byte_mark : (b : ℕ) → b < 256 → marks LF 127 b ≡ (if eqb b LF then 127 else 255)
-unfolding if◌then◌else◌
-byte_mark = agree_at (marks LF 127) (λ b. if eqb b LF then 127 else 255) 256 refl
+byte_mark : (b : ℕ) → b < 256 → marks LF 127 b ≡ (when eqb b LF then 127 else 255)
+unfolding when◌then◌else◌
+byte_mark = agree_at (marks LF 127) (λ b. when eqb b LF then 127 else 255) 256 refl
 
 -- the sum stays in its byte
 low_sum : (b : ℕ) → bit_xor (bit_and b 127) LF + 127 < 256
@@ -59,7 +59,7 @@ fits (suc n) w = fits n (w / 256)
 
 -- All bits are set exactly if no byte is LF: no false alarm, no miss.
 pub lf_test : (n w : ℕ) → fits n w → eqb (marks (each_byte n LF) (each_byte n 127) w) (each_byte n 255) ≡ not (contains LF (bytes_of n w))
-unfolding fits each_byte contains bytes_of if◌then◌else◌
+unfolding fits each_byte contains bytes_of when◌then◌else◌
 lf_test zero w f = rw f refl
 lf_test (suc n) w f =
     ap (λ (m : ℕ). eqb m (each_byte n 255 * 256 + 255)) (by_byte ∙ ap (λ (m : ℕ). rest * 256 + m) (byte_mark b low)) ∙ go (eqb b LF) (lf_test n (w / 256) f)
@@ -81,7 +81,7 @@ lf_test (suc n) w f =
     same false e = ne_eqb (rest * 256 + 255) (each_byte n 255 * 256 + 255) (λ d. eqb-false rest (each_byte n 255) e (omega arith)) ∙ sym e
 
     go : (t : Bool) → eqb rest (each_byte n 255) ≡ not (contains LF (bytes_of n (w / 256)))
-        → eqb (rest * 256 + (if t then 127 else 255)) (each_byte n 255 * 256 + 255) ≡ not (t || contains LF (bytes_of n (w / 256)))
+        → eqb (rest * 256 + (when t then 127 else 255)) (each_byte n 255 * 256 + 255) ≡ not (t || contains LF (bytes_of n (w / 256)))
     go true ih = ne_eqb (rest * 256 + 127) (each_byte n 255 * 256 + 255) (λ e. omega arith)
     go false ih = same (eqb rest (each_byte n 255)) refl ∙ ih
 
@@ -123,11 +123,11 @@ module _ (s : List ℕ) (i : ℕ) where
 -- ---- bytes without b
 
 none_contained : (b : ℕ) (p : List ℕ) → contains b p ≡ false → index_of b p ≡ length p
-unfolding contains index_of if◌then◌else◌
+unfolding contains index_of when◌then◌else◌
 none_contained b [] e = refl
 none_contained b (x ∷ p) e = go (eqb x b) e (none_contained b p)
   where
-    go : (t : Bool) → t || contains b p ≡ false → (contains b p ≡ false → index_of b p ≡ length p) → (if t then 0 else suc (index_of b p)) ≡ suc (length p)
+    go : (t : Bool) → t || contains b p ≡ false → (contains b p ≡ false → index_of b p ≡ length p) → (when t then 0 else suc (index_of b p)) ≡ suc (length p)
     go true f ih = absurd (false≢true (sym f))
     go false f ih = ap suc (ih f)
 

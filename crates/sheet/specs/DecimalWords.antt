@@ -1,7 +1,7 @@
 -- The requests that lines make if words are decimal alone, as before change request 4. No function uses them: they say what the request left as it
 -- was (print/specs/DecimalWords.antt).
 use Rattle.std.specs.Prelude.{ℕ, Bool, false, ◌||◌, List, map}
-use Rattle.words.specs.Word.{if◌then◌else◌}
+use Rattle.words.specs.Word.{when◌then◌else◌}
 use Rattle.sheet.specs.Split.{field_of}
 use Rattle.sheet.specs.Lines.{Text, line, faulty, lines_of}
 use Rattle.sheet.specs.WordField.{has0x}
@@ -23,9 +23,9 @@ decimal_scan l = scan_from (number_in l 1)
 
 unfoldable pub decimal_request : List ℕ → Request
 decimal_request l =
-    if is_kind letter_m 6 l then decimal_motor l
-    else if is_kind letter_i 3 l then decimal_input l
-    else if is_kind letter_s 2 l then decimal_scan l
+    when is_kind letter_m 6 l then decimal_motor l
+    else when is_kind letter_i 3 l then decimal_input l
+    else when is_kind letter_s 2 l then decimal_scan l
     else Refused
 
 -- The requests of a file, one a line
@@ -39,8 +39,8 @@ decimal_requests file = map decimal_text (lines_of file)
 -- A word field of the line begins with 0x
 unfoldable pub line_has0x : List ℕ → Bool
 line_has0x l =
-    if is_kind letter_m 6 l then has0x (field_of l 2) || has0x (field_of l 3)
-    else if is_kind letter_i 3 l then has0x (field_of l 2)
+    when is_kind letter_m 6 l then has0x (field_of l 2) || has0x (field_of l 3)
+    else when is_kind letter_i 3 l then has0x (field_of l 2)
     else false
 
 unfoldable pub text_has0x : Text → Bool

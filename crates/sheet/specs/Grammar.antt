@@ -1,6 +1,6 @@
 -- The request that a line makes, and the requests of a whole file: the paper's "The bench program's file", and its refusal 5.
 use Rattle.std.specs.Prelude.{ℕ, ◌+◌, Bool, ◌&&◌, List, [], ◌∷◌, map, length, get_or, eqb}
-use Rattle.words.specs.Word.{if◌then◌else◌}
+use Rattle.words.specs.Word.{when◌then◌else◌}
 use Rattle.sheet.specs.Split.{field_of, field_count, between}
 use Rattle.sheet.specs.Lines.{Text, line, faulty, lines_of, line_at}
 use Rattle.sheet.specs.Number.{number_of}
@@ -26,7 +26,7 @@ letter_s = 83
 
 -- A line of a kind has its letter, and no more, for its first field, and its count of fields
 unfoldable pub letter_of : List ℕ → ℕ
-letter_of field = if eqb (length field) 1 then get_or field 0 0 else 0
+letter_of field = when eqb (length field) 1 then get_or field 0 0 else 0
 
 unfoldable pub is_kind : ℕ → ℕ → List ℕ → Bool
 is_kind letter count l = eqb (letter_of (field_of l 0)) letter && eqb (field_count l) count
@@ -69,9 +69,9 @@ scan_of l = scan_from (number_in l 1)
 -- A line's request; "an unknown first field, a wrong field count" are refused
 unfoldable pub request_of : List ℕ → Request
 request_of l =
-    if is_kind letter_m 6 l then motor_of l
-    else if is_kind letter_i 3 l then input_of l
-    else if is_kind letter_s 2 l then scan_of l
+    when is_kind letter_m 6 l then motor_of l
+    else when is_kind letter_i 3 l then input_of l
+    else when is_kind letter_s 2 l then scan_of l
     else Refused
 
 -- The requests of a file, one a line; the first is that of line 1

@@ -1,6 +1,6 @@
 -- The lines of a file: the paper's "The bench program's file", and of its refusal 5 "A line empty, over 80 bytes without LF, lacking LF".
 use Rattle.std.specs.Prelude.{ℕ, ◌+◌, Bool, ◌&&◌, List, [], ◌∷◌, length, drop, eqb, leb, ltb}
-use Rattle.words.specs.Word.{if◌then◌else◌}
+use Rattle.words.specs.Word.{when◌then◌else◌}
 use Rattle.sheet.specs.Split.{LF, split, index_of}
 use Rattle.sheet.specs.declared.Found.{Found}
 use Rattle.sheet.specs.declared.Found.TheVariants.{At, Nothing}
@@ -11,7 +11,7 @@ use Rattle.sheet.specs.declared.Line.TheVariants.{Until, Refused, End}
 unfoldable pub found_lf : List ℕ → ℕ → Found
 found_lf file at =
     let i = at + index_of LF (drop at file) in
-    if ltb i (length file) then At i else Nothing
+    when ltb i (length file) then At i else Nothing
 
 -- How many bytes a line may have without LF
 abbrev pub longest : ℕ
@@ -28,12 +28,12 @@ well_sized n = ltb 0 n && leb n longest
 
 -- What stands before an LF
 unfoldable pub text_of : List ℕ → Text
-text_of l = if well_sized (length l) then line l else faulty
+text_of l = when well_sized (length l) then line l else faulty
 
 -- Every part but the last is a line. What follows the last LF is none if it is empty, and otherwise a line "lacking LF".
 unfoldable pub texts_of : List (List ℕ) → List Text
 texts_of [] = []
-texts_of (last ∷ []) = if eqb (length last) 0 then [] else faulty ∷ []
+texts_of (last ∷ []) = when eqb (length last) 0 then [] else faulty ∷ []
 texts_of (l ∷ m ∷ rest) = text_of l ∷ texts_of (m ∷ rest)
 
 -- The lines of a file. "An empty file has no lines."

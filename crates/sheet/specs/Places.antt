@@ -1,7 +1,7 @@
 -- Bytes and numbers where they stand in a file: what the functions promise that read a line once. The requests that they give are those
 -- of `next_at`; nothing here says more of the file.
 use Rattle.std.specs.Prelude.{ℕ, ◌+◌, ◌-◌, ◌≤◌, ◌≡◌, Bool, true, ◌&&◌, List, [], ◌∷◌, length, drop, get_or, eqb, leb, ltb}
-use Rattle.words.specs.Word.{if◌then◌else◌}
+use Rattle.words.specs.Word.{when◌then◌else◌}
 use Rattle.sheet.specs.Split.{LF, comma, between}
 use Rattle.sheet.specs.Lines.{longest}
 use Rattle.sheet.specs.Number.{is_digit, number_of}
@@ -21,18 +21,18 @@ is_digit_at file at = ltb at (length file) && is_digit (get_or file at 0)
 
 -- The value of the hexadecimal digit at a place, and 16 where none stands
 unfoldable pub hex_digit_at : List ℕ → ℕ → ℕ
-hex_digit_at file at = if ltb at (length file) && is_hex_digit (get_or file at 0) then hex_digit (get_or file at 0) else 16
+hex_digit_at file at = when ltb at (length file) && is_hex_digit (get_or file at 0) then hex_digit (get_or file at 0) else 16
 
 -- The hexadecimal digits with which bytes begin, as many as there are
 unfoldable pub hex_run : List ℕ → List ℕ
 hex_run [] = []
-hex_run (b ∷ bs) = if is_hex_digit b then b ∷ hex_run bs else []
+hex_run (b ∷ bs) = when is_hex_digit b then b ∷ hex_run bs else []
 
 -- What those from a place on say, and the place after them, if they are as many as a word may have
 unfoldable pub hex_run_at : List ℕ → ℕ → Figure
 hex_run_at file at =
     let run = hex_run (drop at file) in
-    if is_hex_count (length run) then Said (hex_from 0 run) (at + length run) else Nothing
+    when is_hex_count (length run) then Said (hex_from 0 run) (at + length run) else Nothing
 
 -- A letter, alone in its field, and a comma after it
 unfoldable pub begins_with : List ℕ → ℕ → ℕ → Bool

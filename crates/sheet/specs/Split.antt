@@ -1,7 +1,7 @@
 -- A list of bytes, parted at a byte: the lines of a file at LF, the fields of a line at commas. The paper's "The bench program's file":
 -- "Lines end in LF; fields stand in fixed order, parted by commas, no quoting."
 use Rattle.std.specs.Prelude.{ℕ, suc, ◌-◌, List, [], ◌∷◌, ◌++◌, length, take, drop, get_or, eqb}
-use Rattle.words.specs.Word.{if◌then◌else◌}
+use Rattle.words.specs.Word.{when◌then◌else◌}
 
 -- The bytes LF and comma
 abbrev pub LF : ℕ
@@ -18,7 +18,7 @@ join_first x (p ∷ ps) = (x ∷ p) ∷ ps
 -- The parts between the bytes b, in order: one part more than there are b's
 unfoldable pub split : ℕ → List ℕ → List (List ℕ)
 split b [] = [] ∷ []
-split b (x ∷ xs) = if eqb x b then [] ∷ split b xs else join_first x (split b xs)
+split b (x ∷ xs) = when eqb x b then [] ∷ split b xs else join_first x (split b xs)
 
 -- The way back: the parts with a b between each two
 unfoldable pub joined : ℕ → List (List ℕ) → List ℕ
@@ -29,7 +29,7 @@ joined b (p ∷ q ∷ ps) = p ++ b ∷ joined b (q ∷ ps)
 -- How many bytes stand before the first b: all of them if there is none
 unfoldable pub index_of : ℕ → List ℕ → ℕ
 index_of b [] = 0
-index_of b (x ∷ xs) = if eqb x b then 0 else suc (index_of b xs)
+index_of b (x ∷ xs) = when eqb x b then 0 else suc (index_of b xs)
 
 -- The bytes from one place up to another, as many as there are
 unfoldable pub between : ℕ → ℕ → List ℕ → List ℕ

@@ -2,7 +2,7 @@
 -- wiring sheets print a word "with 0x and one to eight digits, capital letters only"; "Leading zeros are allowed after 0x." A field without 0x is a
 -- number, as it was before.
 use Rattle.std.specs.Prelude.{ℕ, zero, suc, ◌+◌, ◌-◌, ◌*◌, ◌/◌, ◌%◌, Bool, true, ◌&&◌, ◌||◌, List, [], ◌∷◌, ◌++◌, length, drop, get_or, eqb, leb, ltb}
-use Rattle.words.specs.Word.{if◌then◌else◌}
+use Rattle.words.specs.Word.{when◌then◌else◌}
 use Rattle.sheet.specs.Number.{is_digit, number_of}
 use Rattle.sheet.specs.declared.Number.{Number}
 use Rattle.sheet.specs.declared.Number.TheVariants.{Value, Refused}
@@ -12,7 +12,7 @@ unfoldable pub is_hex_digit : ℕ → Bool
 is_hex_digit b = is_digit b || (leb 65 b && leb b 70)
 
 unfoldable pub hex_digit : ℕ → ℕ
-hex_digit b = if is_digit b then b - 48 else b - 55
+hex_digit b = when is_digit b then b - 48 else b - 55
 
 -- such digits alone: no small letter, sign or any other byte
 unfoldable pub all_hex_digits : List ℕ → Bool
@@ -30,7 +30,7 @@ is_hex_count n = leb 1 n && leb n 8
 
 -- What stands after 0x
 unfoldable pub hex_number : List ℕ → Number
-hex_number digits = if is_hex_count (length digits) && all_hex_digits digits then Value (hex_from 0 digits) else Refused
+hex_number digits = when is_hex_count (length digits) && all_hex_digits digits then Value (hex_from 0 digits) else Refused
 
 -- "with 0x": the bytes 48 and 120 come first
 unfoldable pub has0x : List ℕ → Bool
@@ -38,12 +38,12 @@ has0x field = eqb (get_or field 0 0) 48 && eqb (get_or field 1 0) 120
 
 -- A field's word
 unfoldable pub word_of : List ℕ → Number
-word_of field = if has0x field then hex_number (drop 2 field) else number_of field
+word_of field = when has0x field then hex_number (drop 2 field) else number_of field
 
 -- The way back: the field that a wiring sheet prints for a word n, below 16 ^ k, in k digits. It says n, and no other field with 0x and k digits does
 -- (proofs/HexBack.antt).
 unfoldable pub hex_digit_of : ℕ → ℕ
-hex_digit_of d = if ltb d 10 then 48 + d else 55 + d
+hex_digit_of d = when ltb d 10 then 48 + d else 55 + d
 
 unfoldable pub hex_digits_of : ℕ → ℕ → List ℕ
 hex_digits_of zero n = []

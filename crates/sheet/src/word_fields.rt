@@ -1,6 +1,6 @@
 // The word that a field says: a number, or hexadecimal digits after 0x.
 ghost use Rattle.std.specs.Prelude.{◌≡◌};
-ghost use Rattle.words.specs.Word.{if◌then◌else◌};
+ghost use Rattle.words.specs.Word.{when◌then◌else◌};
 ghost use Rattle.sheet.specs.WordField.{is_hex_digit, hex_digit, hex_number, has0x, word_of};
 ghost use Rattle.sheet.specs.Places.{hex_digit_at, hex_run_at};
 
@@ -14,7 +14,7 @@ const MOST_DIGITS: usize = 8;
 
 // The value of a hexadecimal digit, and 16 of any other byte.
 fn hex_digit(b: u8) -> u64
-    ensures { result ≡ (if is_hex_digit b then hex_digit b else 16) }
+    ensures { result ≡ (when is_hex_digit b then hex_digit b else 16) }
 {
     if (48 <= b) & (b <= 57) {
         return wide(b) - 48;

@@ -8,7 +8,7 @@ use native.Mathlib.Omega.{arith}
 use lib.Dec.{eqb, lit<}
 use lib.Bits.{bit_and, bit_or, and_high}
 use lib.Count.{ones, count_trailing_zeros, ones_cat}
-use Rattle.words.specs.Word.{if◌then◌else◌, bit_of, is_set, rose, without}
+use Rattle.words.specs.Word.{when◌then◌else◌, bit_of, is_set, rose, without}
 use Rattle.words.proofs.Laws.{risen_is, agree_at}
 use Rattle.rules.specs.declared.Status.{Status}
 use Rattle.rules.specs.Record.{repair, reserve, work, bit_risen}
@@ -16,10 +16,10 @@ use Rattle.rules.specs.Steps.{modes_risen, mode_asked}
 
 -- how many of three bits there are, and the mode of the lowest
 how_many : Bool → Bool → Bool → ℕ
-how_many a b c = (if a then 1 else 0) + (if b then 1 else 0) + (if c then 1 else 0)
+how_many a b c = (when a then 1 else 0) + (when b then 1 else 0) + (when c then 1 else 0)
 
 lowest : Bool → Bool → ℕ
-lowest a b = if a then repair else if b then reserve else work
+lowest a b = when a then repair else when b then reserve else work
 
 -- of the three digits of q, moved up by nine places
 record Says (q : ℕ) : Type 0 where
@@ -28,7 +28,7 @@ record Says (q : ℕ) : Type 0 where
   low : count_trailing_zeros 32 (bit_or (q * 512) 2048) - 9 ≡ lowest (eqb (q % 2) 1) (eqb (q / 2 % 2) 1)
 
 says : (q : ℕ) → q < 8 → Says q
-unfolding how_many lowest if◌then◌else◌ ones count_trailing_zeros
+unfolding how_many lowest when◌then◌else◌ ones count_trailing_zeros
 says q h =
     let last : count_trailing_zeros 32 (bit_or (q * 512) 2048) ≡ 9 + lowest (eqb (q % 2) 1) (eqb (q / 2 % 2) 1) =
     agree_at (λ q. count_trailing_zeros 32 (bit_or (q * 512) 2048)) (λ q. 9 + lowest (eqb (q % 2) 1) (eqb (q / 2 % 2) 1)) 8 refl q h in

@@ -9,7 +9,7 @@ use lib.Dec.{eqb, lit<}
 use lib.ListN.{length, get_or, drop}
 use lib.Seq.{drop-cons}
 use borrow.Author.Tests.{ne_eqb}
-use Rattle.words.specs.Word.{if◌then◌else◌}
+use Rattle.words.specs.Word.{when◌then◌else◌}
 use Rattle.words.proofs.Laws.{agree_at}
 use Rattle.rules.specs.Record.{commands, direction, input_bit}
 use Rattle.rules.specs.Steps.{first_of}
@@ -19,20 +19,20 @@ past : (c k : ℕ) → 8 ≤ c → k < 8 → eqb c k ≡ false
 past c k h l = ne_eqb c k (λ e. omega arith)
 
 pub direction_at : (c : ℕ) → c < 8 → get_or (0 ∷ 1 ∷ 1 ∷ 2 ∷ 1 ∷ 2 ∷ 1 ∷ 2 ∷ []) c 0 ≡ direction c
-unfolding direction if◌then◌else◌
+unfolding direction when◌then◌else◌
 direction_at = agree_at (λ c. get_or (0 ∷ 1 ∷ 1 ∷ 2 ∷ 1 ∷ 2 ∷ 1 ∷ 2 ∷ []) c 0) direction 8 refl
 
 pub direction_past : (c : ℕ) → 8 ≤ c → direction c ≡ 0
-unfolding direction if◌then◌else◌
+unfolding direction when◌then◌else◌
 direction_past c h =
     simp (past c 1 h (lit< tt), past c 2 h (lit< tt), past c 3 h (lit< tt), past c 4 h (lit< tt), past c 5 h (lit< tt), past c 6 h (lit< tt), past c 7 h (lit< tt))
 
 pub input_at : (c : ℕ) → c < 8 → get_or (32 ∷ 0 ∷ 8 ∷ 7 ∷ 3 ∷ 2 ∷ 13 ∷ 12 ∷ []) c 0 ≡ input_bit c
-unfolding input_bit if◌then◌else◌
+unfolding input_bit when◌then◌else◌
 input_at = agree_at (λ c. get_or (32 ∷ 0 ∷ 8 ∷ 7 ∷ 3 ∷ 2 ∷ 13 ∷ 12 ∷ []) c 0) input_bit 8 refl
 
 pub input_past : (c : ℕ) → 8 ≤ c → input_bit c ≡ 32
-unfolding input_bit if◌then◌else◌
+unfolding input_bit when◌then◌else◌
 input_past c h =
     simp (past c 1 h (lit< tt), past c 2 h (lit< tt), past c 3 h (lit< tt), past c 4 h (lit< tt), past c 5 h (lit< tt), past c 6 h (lit< tt), past c 7 h (lit< tt))
 
@@ -45,7 +45,7 @@ seven : length commands ≡ 7
 unfolding commands
 seven = refl
 
-pub first_from : (f : ℕ → Bool) (c : ℕ) → 1 ≤ c → c < 8 → first_of f (drop (c - 1) commands) ≡ (if f c then c else first_of f (drop c commands))
+pub first_from : (f : ℕ → Bool) (c : ℕ) → 1 ≤ c → c < 8 → first_of f (drop (c - 1) commands) ≡ (when f c then c else first_of f (drop c commands))
 unfolding first_of
 first_from f c h l =
     let e : suc (c - 1) ≡ c = omega arith in

@@ -11,7 +11,7 @@ use lib.Dec.{eqb, lit<}
 use lib.ListN.{length, get_or, set, take}
 use lib.Seq.{take_all, get_or-take, length-take-le}
 use borrow.Author.Tests.{eqb-true, not-false, eq-eqb, lt-ltb, le-ltb}
-use Rattle.words.specs.Word.{if◌then◌else◌}
+use Rattle.words.specs.Word.{when◌then◌else◌}
 use Rattle.words.proofs.Laws.{either, if_lt}
 use Rattle.rules.specs.Refusals.{most_motors, misfit, in_range, period_ok, word_ok, all_ok, one_after, table_refusal, step_all, table_after, part_refusal}
 use Rattle.rules.proofs.Tables.{or_false, all_ok_suc, accepted, each_accepted, one_accepted, none_stepped, not_yet, one_more, length_step_all}
@@ -20,10 +20,10 @@ use Rattle.table.specs.Pass.{first_code, next_code, to_test, to_step}
 
 -- what the records x, the period q and the words y come to, and with them one more record m and word w
 code : Bool → Bool → Bool → ℕ
-code x q y = if◌then◌else◌ (not x) 6 (if◌then◌else◌ (not q) 2 (if◌then◌else◌ (not y) 3 0))
+code x q y = when◌then◌else◌ (not x) 6 (when◌then◌else◌ (not q) 2 (when◌then◌else◌ (not y) 3 0))
 
-code_more : (x q y m w : Bool) → if◌then◌else◌ (not m) 6 (if◌then◌else◌ (eqb (code x q y) 0 && not w) 3 (code x q y)) ≡ code (x && m) q (y && w)
-unfolding if◌then◌else◌ code
+code_more : (x q y m w : Bool) → when◌then◌else◌ (not m) 6 (when◌then◌else◌ (eqb (code x q y) 0 && not w) 3 (code x q y)) ≡ code (x && m) q (y && w)
+unfolding when◌then◌else◌ code
 code_more true q y false w = refl
 code_more false q y false w = refl
 code_more false q y true w = refl
@@ -44,7 +44,7 @@ module _ (ms : List Motor) (ws : List ℕ) (p : ℕ) where
   K = length ws
 
   code_by : Bool → ℕ → ℕ
-  code_by z i = if◌then◌else◌ z 1 (code (all_ok in_range (take i ms)) (period_ok p) (all_ok word_ok (take i ws)))
+  code_by z i = when◌then◌else◌ z 1 (code (all_ok in_range (take i ms)) (period_ok p) (all_ok word_ok (take i ws)))
 
   pub code_at : ℕ → ℕ
   code_at i = code_by (misfit N K) i
@@ -54,23 +54,23 @@ module _ (ms : List Motor) (ws : List ℕ) (p : ℕ) where
   unfolding misfit
   same_length e = eqb-true N K (not-false (eqb N K) (or_false _ _ e).0)
 
-  in_test : (z : Bool) → misfit N K ≡ z → (i : ℕ) → i < if◌then◌else◌ z 0 N → (i < N) × (i < K)
-  unfolding if◌then◌else◌
+  in_test : (z : Bool) → misfit N K ≡ z → (i : ℕ) → i < when◌then◌else◌ z 0 N → (i < N) × (i < K)
+  unfolding when◌then◌else◌
   in_test true e i l = absurd (not-suc-le-zero l)
   in_test false e i l = (l, rw (same_length e) at l)
 
-  turn_by : (z : Bool) (d : Motor) (i : ℕ) → i < if◌then◌else◌ z 0 N → i < N → i < K → next_code (code_by z i) (get_or ms i d) (get_or ws i 0) ≡ code_by z (suc i)
-  unfolding if◌then◌else◌ code_by next_code
+  turn_by : (z : Bool) (d : Motor) (i : ℕ) → i < when◌then◌else◌ z 0 N → i < N → i < K → next_code (code_by z i) (get_or ms i d) (get_or ws i 0) ≡ code_by z (suc i)
+  unfolding when◌then◌else◌ code_by next_code
   turn_by true d i l a b = absurd (not-suc-le-zero l)
   turn_by false d i l a b = rw (all_ok_suc in_range ms i d a, all_ok_suc word_ok ws i 0 b) (code_more (all_ok in_range (take i ms)) (period_ok p) (all_ok word_ok (take i ws)) (in_range (get_or ms i d)) (word_ok (get_or ws i 0)))
 
-  end_by : (z : Bool) → misfit N K ≡ z → (i : ℕ) → if◌then◌else◌ z 0 N ≤ i → code_by z i ≡ if◌then◌else◌ z 1 (code (all_ok in_range ms) (period_ok p) (all_ok word_ok ws))
-  unfolding if◌then◌else◌ code_by
+  end_by : (z : Bool) → misfit N K ≡ z → (i : ℕ) → when◌then◌else◌ z 0 N ≤ i → code_by z i ≡ when◌then◌else◌ z 1 (code (all_ok in_range ms) (period_ok p) (all_ok word_ok ws))
+  unfolding when◌then◌else◌ code_by
   end_by true e i l = refl
   end_by false e i l = rw (take_all i ms l, take_all i ws (rw (same_length e) at l))
 
   pub code_start : first_code N K p ≡ code_at 0
-  unfolding first_code code_at code_by code all_ok if◌then◌else◌
+  unfolding first_code code_at code_by code all_ok when◌then◌else◌
   code_start = refl
 
   pub test_in : (i : ℕ) → i < to_test N K → (i < N) × (i < K)
@@ -94,28 +94,28 @@ module _ (ms : List Motor) (ws : List ℕ) (p : ℕ) where
   R = table_refusal ms ws p
 
   table_by : Bool → ℕ → List Motor
-  table_by z j = if◌then◌else◌ z (step_all ms (take j ws) p) ms
+  table_by z j = when◌then◌else◌ z (step_all ms (take j ws) p) ms
 
   pub table_at : ℕ → List Motor
   table_at j = table_by (eqb R 0) j
 
   start_by : (z : Bool) → ms ≡ table_by z 0
-  unfolding if◌then◌else◌ table_by
+  unfolding when◌then◌else◌ table_by
   start_by true = sym (none_stepped ms p)
   start_by false = refl
 
-  in_step : (z : Bool) → eqb R 0 ≡ z → (j : ℕ) → j < if◌then◌else◌ z N 0 → (j < N) × (j < K)
-  unfolding if◌then◌else◌
+  in_step : (z : Bool) → eqb R 0 ≡ z → (j : ℕ) → j < when◌then◌else◌ z N 0 → (j < N) × (j < K)
+  unfolding when◌then◌else◌
   in_step true e j l = (l, rw (accepted ms ws p (eqb-true R 0 e)).lengths at l)
   in_step false e j l = absurd (not-suc-le-zero l)
 
-  step_by : (z : Bool) → eqb R 0 ≡ z → (d : Motor) (j : ℕ) → j < if◌then◌else◌ z N 0 → j < N → j < K → set (table_by z j) j (one_after (get_or (table_by z j) j d) (get_or ws j 0) p) ≡ table_by z (suc j)
-  unfolding if◌then◌else◌ table_by
+  step_by : (z : Bool) → eqb R 0 ≡ z → (d : Motor) (j : ℕ) → j < when◌then◌else◌ z N 0 → j < N → j < K → set (table_by z j) j (one_after (get_or (table_by z j) j d) (get_or ws j 0) p) ≡ table_by z (suc j)
+  unfolding when◌then◌else◌ table_by
   step_by true e d j l a b = rw (not_yet ms ws p j d, one_accepted (get_or ms j d) (get_or ws j 0) p (each_accepted ms ws p (eqb-true R 0 e) j d a)) (one_more ms ws p j d a b)
   step_by false e d j l a b = absurd (not-suc-le-zero l)
 
-  last_by : (z : Bool) → eqb R 0 ≡ z → (j : ℕ) → if◌then◌else◌ z N 0 ≤ j → table_by z j ≡ if◌then◌else◌ z (step_all ms ws p) ms
-  unfolding if◌then◌else◌ table_by
+  last_by : (z : Bool) → eqb R 0 ≡ z → (j : ℕ) → when◌then◌else◌ z N 0 ≤ j → table_by z j ≡ when◌then◌else◌ z (step_all ms ws p) ms
+  unfolding when◌then◌else◌ table_by
   last_by true e j l = rw (take_all j ws (rw (accepted ms ws p (eqb-true R 0 e)).lengths at l))
   last_by false e j l = refl
 
@@ -148,7 +148,7 @@ module _ (ms : List Motor) (ws : List ℕ) (n p : ℕ) (few : n ≤ most_motors)
   words = length-take-le n ws k
 
   all_tested : to_test (length (take n ms)) (length (take n ws)) ≡ n
-  unfolding to_test misfit if◌then◌else◌
+  unfolding to_test misfit when◌then◌else◌
   all_tested = rw (records, words, eq-eqb n n refl, le-ltb most_motors n few) refl
 
   pub part_start : first_code n n p ≡ code_at (take n ms) (take n ws) p 0
@@ -159,10 +159,10 @@ module _ (ms : List Motor) (ws : List ℕ) (n p : ℕ) (few : n ≤ most_motors)
   part_turn d i h = rw (get_or-take n ms i d h, get_or-take n ws i 0 h) at (code_turn (take n ms) (take n ws) p d i (omega (arith, all_tested)))
 
   pub part_end : code_at (take n ms) (take n ws) p n ≡ part_refusal ms n ws p
-  unfolding part_refusal if◌then◌else◌
+  unfolding part_refusal when◌then◌else◌
   part_end = rw (le-ltb most_motors n few) (code_end (take n ms) (take n ws) p n (omega (arith, all_tested)))
 
 -- more records than a table may have
 pub part_too_many : (ms : List Motor) (ws : List ℕ) (n p : ℕ) → most_motors < n → part_refusal ms n ws p ≡ 1
-unfolding part_refusal if◌then◌else◌
+unfolding part_refusal when◌then◌else◌
 part_too_many ms ws n p h = rw (lt-ltb most_motors n h) refl

@@ -2,7 +2,7 @@
 use Prim.Native.Nat.{ℕ}
 use mathlib.Core.Path.{◌≡◌, refl}
 use mathlib.Core.Bool.{true}
-use Rattle.words.specs.Word.{if◌then◌else◌}
+use Rattle.words.specs.Word.{when◌then◌else◌}
 use Rattle.rules.specs.declared.Motor.{Motor}
 use Rattle.rules.specs.declared.Reading.{Reading}
 use Rattle.rules.specs.Record.{idle, with_positions, with_command, with_flags, with_previous}
@@ -25,5 +25,5 @@ with_on t on =
 
 pub rest_totals : (t : Totals) (m : Motor) (word period : ℕ) (r : Reading) → idle m.status ≡ true
     → totals_after t m (rested_status m.settings m.status word r) r period ≡ with_on t (on_after t.on r period)
-unfolding totals_after counted_if has_issued rested_status idle_status status10 status5 status2 status1 with_previous with_flags with_positions with_command idle if◌then◌else◌
+unfolding totals_after counted_if has_issued rested_status idle_status status10 status5 status2 status1 with_previous with_flags with_positions with_command idle when◌then◌else◌
 rest_totals t m word period r e = rw e refl

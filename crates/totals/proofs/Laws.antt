@@ -8,7 +8,7 @@ use native.Mathlib.Omega.{arith}
 use native.Mathlib.Decide.{dec_lt}
 use lib.ListN.{length}
 use borrow.Author.Tests.{eqb-true}
-use Rattle.words.specs.Word.{if◌then◌else◌}
+use Rattle.words.specs.Word.{when◌then◌else◌}
 use Rattle.words.proofs.Laws.{either}
 use Rattle.rules.specs.declared.Settings.{Settings}
 use Rattle.rules.specs.Record.{end_confirmed, idle, fresh_status}
@@ -28,13 +28,13 @@ use Rattle.totals.proofs.Turns.{turned, issued_seen, Even, scan_even}
 
 one_more : (s : Settings) (h : Log Input) (x : Input) → Even (book_of s h).status.command (book_of s (h ▸ x)).status.end (book_of s (h ▸ x)).status.command
     → issued_of s h ≡ confirmed_of s h + displaced_of s h + overdue_of s h + under_way_of s h
-    → issued_of s h + (if has_issued (book_of s h).status.command (book_of s (h ▸ x)).status then 1 else 0)
-    ≡ confirmed_of s h + (if last_ended 1 s (h ▸ x) then 1 else 0) + (displaced_of s h + (if last_ended 2 s (h ▸ x) then 1 else 0)) + (overdue_of s h + (if last_ended 3 s (h ▸ x) then 1 else 0)) + under_way_of s (h ▸ x)
+    → issued_of s h + (when has_issued (book_of s h).status.command (book_of s (h ▸ x)).status then 1 else 0)
+    ≡ confirmed_of s h + (when last_ended 1 s (h ▸ x) then 1 else 0) + (displaced_of s h + (when last_ended 2 s (h ▸ x) then 1 else 0)) + (overdue_of s h + (when last_ended 3 s (h ▸ x) then 1 else 0)) + under_way_of s (h ▸ x)
 unfolding has_issued idle last_ended under_way_in under_way_of
 one_more s h x e ih = omega (arith, e.is, ih)
 
 none_yet : (s : Settings) → under_way_of s none ≡ 0
-unfolding under_way_in under_way_of book_of fresh_status idle if◌then◌else◌
+unfolding under_way_in under_way_of book_of fresh_status idle when◌then◌else◌
 none_yet s = refl
 
 pub balance : (s : Settings) (h : Log Input) → issued_of s h ≡ confirmed_of s h + displaced_of s h + overdue_of s h + under_way_of s h
@@ -105,10 +105,10 @@ module _ (P : List ℕ → Type 0) where
   -- what holds of no times, and of one time more wherever a command is confirmed
   times_by : (s : Settings) (h : Log Input) (x : Input) → P (times_of s h)
       → (last_ended end_confirmed s (h ▸ x) ≡ true → P (since (book_of s h).issue (h ▸ x) ∷ times_of s h)) → P (times_of s (h ▸ x))
-  unfolding times_of if◌then◌else◌
+  unfolding times_of when◌then◌else◌
   times_by s h x a f = go (last_ended end_confirmed s (h ▸ x)) f
     where
-      go : (z : Bool) → (z ≡ true → P (since (book_of s h).issue (h ▸ x) ∷ times_of s h)) → P (if z then since (book_of s h).issue (h ▸ x) ∷ times_of s h else times_of s h)
+      go : (z : Bool) → (z ≡ true → P (since (book_of s h).issue (h ▸ x) ∷ times_of s h)) → P (when z then since (book_of s h).issue (h ▸ x) ∷ times_of s h else times_of s h)
       go true f = f refl
       go false f = a
 
@@ -139,12 +139,12 @@ times_positive s (h ▸ x) t =
 
 -- there are as many times as confirmations
 pub confirmed_times : (s : Settings) (h : Log Input) → confirmed_of s h ≡ length (times_of s h)
-unfolding confirmed_of scans_with times_of if◌then◌else◌
+unfolding confirmed_of scans_with times_of when◌then◌else◌
 confirmed_times s none = refl
 confirmed_times s (h ▸ x) = go (last_ended end_confirmed s (h ▸ x)) (confirmed_times s h)
   where
     go : (z : Bool) → scans_with (last_ended end_confirmed s) h ≡ length (times_of s h)
-        → scans_with (last_ended end_confirmed s) h + (if z then 1 else 0) ≡ length (if z then since (book_of s h).issue (h ▸ x) ∷ times_of s h else times_of s h)
+        → scans_with (last_ended end_confirmed s) h + (when z then 1 else 0) ≡ length (when z then since (book_of s h).issue (h ▸ x) ∷ times_of s h else times_of s h)
     go true e = omega (arith, e)
     go false e = omega (arith, e)
 

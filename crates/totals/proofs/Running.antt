@@ -7,7 +7,7 @@ use native.Mathlib.Omega.{arith}
 use lib.Dec.{eqb}
 use lib.ListN.{length}
 use borrow.Author.Tests.{ne_eqb}
-use Rattle.words.specs.Word.{if◌then◌else◌}
+use Rattle.words.specs.Word.{when◌then◌else◌}
 use Rattle.rules.specs.declared.Settings.{Settings}
 use Rattle.rules.specs.declared.Status.{Status}
 use Rattle.rules.specs.Record.{end_confirmed, end_displaced, end_overdue, idle}
@@ -25,20 +25,20 @@ use Rattle.totals.proofs.Laws.{balance, under_way, time_is, confirmed_times, iss
 
 -- ---- one more of a number that is capped
 
-counted : (n : ℕ) (z : Bool) → counted_if (capped n) z ≡ capped (n + (if z then 1 else 0))
-unfolding counted_if capped if◌then◌else◌
+counted : (n : ℕ) (z : Bool) → counted_if (capped n) z ≡ capped (n + (when z then 1 else 0))
+unfolding counted_if capped when◌then◌else◌
 counted n true = omega arith
 counted n false = ap capped (omega arith)
 
-added : (n p : ℕ) (z : Bool) → (if z then capped (capped n + p) else capped n) ≡ capped (n + (if z then p else 0))
-unfolding capped if◌then◌else◌
+added : (n p : ℕ) (z : Bool) → (when z then capped (capped n + p) else capped n) ≡ capped (n + (when z then p else 0))
+unfolding capped when◌then◌else◌
 added n p true = omega arith
 added n p false = ap capped (omega arith)
 
 -- one more time, the best and the worst of which are kept
 
 best_more : (time : ℕ) (ts : List ℕ) → best_after (capped (length ts)) (capped (least ts)) (capped time) ≡ capped (least (time ∷ ts))
-unfolding best_after capped least if◌then◌else◌
+unfolding best_after capped least when◌then◌else◌
 best_more time [] = refl
 best_more time (n ∷ ts) = rw (ne_eqb (min (suc (length ts)) 4294967295) 0 (λ e. omega arith)) (omega arith)
 
@@ -54,25 +54,25 @@ module _ (s : Settings) (h : Log Input) (x : Input) where
   unfolding idle
   time_kept e = ap (λ (n : ℕ). n + x.period) ((book_held s h).sum_is (ne_eqb _ 0 (under_way s h x e).some)) ∙ sym (time_is s h x)
 
-  best_kept : (if eqb (book_of s (h ▸ x)).status.end end_confirmed then best_after (capped (confirmed_of s h)) (capped (best_of s h)) (capped ((record_of s h).sum + x.period)) else capped (best_of s h))
+  best_kept : (when eqb (book_of s (h ▸ x)).status.end end_confirmed then best_after (capped (confirmed_of s h)) (capped (best_of s h)) (capped ((record_of s h).sum + x.period)) else capped (best_of s h))
       ≡ capped (best_of s (h ▸ x))
-  unfolding best_of times_of last_ended if◌then◌else◌
+  unfolding best_of times_of last_ended when◌then◌else◌
   best_kept = go (last_ended end_confirmed s (h ▸ x)) refl
     where
       go : (z : Bool) → last_ended end_confirmed s (h ▸ x) ≡ z
-          → (if z then best_after (capped (confirmed_of s h)) (capped (least (times_of s h))) (capped ((record_of s h).sum + x.period)) else capped (least (times_of s h)))
-          ≡ capped (least (if z then since (book_of s h).issue (h ▸ x) ∷ times_of s h else times_of s h))
+          → (when z then best_after (capped (confirmed_of s h)) (capped (least (times_of s h))) (capped ((record_of s h).sum + x.period)) else capped (least (times_of s h)))
+          ≡ capped (least (when z then since (book_of s h).issue (h ▸ x) ∷ times_of s h else times_of s h))
       go true e = rw (time_kept e, confirmed_times s h) (best_more _ (times_of s h))
       go false e = refl
 
-  worst_kept : (if eqb (book_of s (h ▸ x)).status.end end_confirmed then max (capped (worst_of s h)) (capped ((record_of s h).sum + x.period)) else capped (worst_of s h))
+  worst_kept : (when eqb (book_of s (h ▸ x)).status.end end_confirmed then max (capped (worst_of s h)) (capped ((record_of s h).sum + x.period)) else capped (worst_of s h))
       ≡ capped (worst_of s (h ▸ x))
-  unfolding worst_of times_of last_ended if◌then◌else◌
+  unfolding worst_of times_of last_ended when◌then◌else◌
   worst_kept = go (last_ended end_confirmed s (h ▸ x)) refl
     where
       go : (z : Bool) → last_ended end_confirmed s (h ▸ x) ≡ z
-          → (if z then max (capped (greatest (times_of s h))) (capped ((record_of s h).sum + x.period)) else capped (greatest (times_of s h)))
-          ≡ capped (greatest (if z then since (book_of s h).issue (h ▸ x) ∷ times_of s h else times_of s h))
+          → (when z then max (capped (greatest (times_of s h))) (capped ((record_of s h).sum + x.period)) else capped (greatest (times_of s h)))
+          ≡ capped (greatest (when z then since (book_of s h).issue (h ▸ x) ∷ times_of s h else times_of s h))
       go true e = rw (time_kept e) (worst_more _ (times_of s h))
       go false e = refl
 

@@ -8,7 +8,7 @@ use native.Mathlib.Omega.{arith}
 use native.Mathlib.Decide.{ℕ_discrete}
 use lib.Dec.{eqb}
 use borrow.Author.Tests.{eq-eqb, ne_eqb}
-use Rattle.words.specs.Word.{if◌then◌else◌}
+use Rattle.words.specs.Word.{when◌then◌else◌}
 use Rattle.rules.specs.declared.Settings.{Settings}
 use Rattle.rules.specs.Record.{no_command, no_end, end_confirmed, end_displaced, end_overdue, idle}
 use Rattle.rules.specs.Scans.{Input}
@@ -90,11 +90,11 @@ issued_seen s h x = issued_is _ _ _ _ _ (turned s h x)
 -- ---- the balance of one scan: what it issues, and what was under way, has ended or is under way
 
 pub record Even (c e c' : ℕ) : Type 0 where
-  pub is : (if not (eqb c' 0) && (eqb c 0 || not (eqb e 0)) then 1 else 0) + (if eqb c 0 then 0 else 1)
-      ≡ (if eqb e 1 then 1 else 0) + (if eqb e 2 then 1 else 0) + (if eqb e 3 then 1 else 0) + (if eqb c' 0 then 0 else 1)
+  pub is : (when not (eqb c' 0) && (eqb c 0 || not (eqb e 0)) then 1 else 0) + (when eqb c 0 then 0 else 1)
+      ≡ (when eqb e 1 then 1 else 0) + (when eqb e 2 then 1 else 0) + (when eqb e 3 then 1 else 0) + (when eqb c' 0 then 0 else 1)
 
 even : (c e c' i' n : ℕ) → Turned c e c' i' n → Even c e c'
-unfolding if◌then◌else◌
+unfolding when◌then◌else◌
 even c e c' i' n t = go e t.known t (ℕ_discrete c' 0) (ℕ_discrete c 0)
   where
     go : (e : ℕ) → e ≤ 3 → Turned c e c' i' n → Dec (c' ≡ 0) → Dec (c ≡ 0) → Even c e c'

@@ -1,7 +1,7 @@
 -- Running totals, kept scan by scan in place of the history. No rule of the request: proofs/Running.antt shows that they are the totals of
 -- the history. They are 32-bit words and stop at the largest, which no file is long enough to reach (print/proofs/Histories.antt).
 use Rattle.std.specs.Prelude.{ℕ, ◌+◌, min, max, Bool, not, ◌&&◌, ◌||◌, List, [], ◌∷◌, eqb}
-use Rattle.words.specs.Word.{if◌then◌else◌}
+use Rattle.words.specs.Word.{when◌then◌else◌}
 use Rattle.rules.specs.declared.Settings.{Settings}
 use Rattle.rules.specs.declared.Status.{Status}
 use Rattle.rules.specs.declared.Motor.{Motor}
@@ -21,7 +21,7 @@ no_totals = record { issued = 0; confirmed = 0; displaced = 0; overdue = 0; on =
 
 -- one more, if it counts
 unfoldable pub counted_if : ℕ → Bool → ℕ
-counted_if n counts = if counts then capped (n + 1) else n
+counted_if n counts = when counts then capped (n + 1) else n
 
 -- A scan with the status v after it issued a command: one is under way then, and none was before, or the one that was has ended.
 unfoldable pub has_issued : ℕ → Status → Bool
@@ -29,11 +29,11 @@ has_issued before v = not (idle v) && (eqb before no_command || not (eqb v.end n
 
 -- the period counts if the reading is On
 unfoldable pub on_after : ℕ → Reading → ℕ → ℕ
-on_after time r period = if eqb (position_read r) on then capped (time + period) else time
+on_after time r period = when eqb (position_read r) on then capped (time + period) else time
 
 -- the best time after one more confirmation, which took this time; `before` is how many there were
 unfoldable pub best_after : ℕ → ℕ → ℕ → ℕ
-best_after before best time = if eqb before 0 then time else min best time
+best_after before best time = when eqb before 0 then time else min best time
 
 -- A scan that reads r, from the record m to the status v
 unfoldable pub totals_after : Totals → Motor → Status → Reading → ℕ → Totals
@@ -44,8 +44,8 @@ totals_after t m v r period =
       displaced = counted_if t.displaced (eqb v.end end_displaced);
       overdue = counted_if t.overdue (eqb v.end end_overdue);
       on = on_after t.on r period;
-      best = if eqb v.end end_confirmed then best_after t.confirmed t.best (capped (m.sum + period)) else t.best;
-      worst = if eqb v.end end_confirmed then max t.worst (capped (m.sum + period)) else t.worst;
+      best = when eqb v.end end_confirmed then best_after t.confirmed t.best (capped (m.sum + period)) else t.best;
+      worst = when eqb v.end end_confirmed then max t.worst (capped (m.sum + period)) else t.worst;
     }
 
 -- The scan of a record, by its word; and of a table's records, each by its own (those without a word stay)

@@ -1,7 +1,7 @@
 -- The totals of a sitting (change request 2): `T,number,issued,confirmed,displaced,overdue,under way,on,best,worst`. Each is taken by itself
 -- from a motor's settings and history, and from the book of commands that is kept from these. Times are milliseconds.
 use Rattle.std.specs.Prelude.{ℕ, ◌+◌, min, max, Bool, not, ◌&&◌, List, [], ◌∷◌, eqb}
-use Rattle.words.specs.Word.{if◌then◌else◌}
+use Rattle.words.specs.Word.{when◌then◌else◌}
 use Rattle.rules.specs.declared.Settings.{Settings}
 use Rattle.rules.specs.declared.Status.{Status}
 use Rattle.rules.specs.Record.{on, end_confirmed, end_displaced, end_overdue, idle}
@@ -14,7 +14,7 @@ use Rattle.totals.specs.declared.Totals.{Totals}
 -- `h ▸ x` is the history h and then the scan x. How many scans of a history pass a test, which is given the history up to and with the scan
 unfoldable pub scans_with : (Log Input → Bool) → Log Input → ℕ
 scans_with test none = 0
-scans_with test (h ▸ x) = scans_with test h + (if test (h ▸ x) then 1 else 0)
+scans_with test (h ▸ x) = scans_with test h + (when test (h ▸ x) then 1 else 0)
 
 -- The last scan issued a command: the book has one under way, entered with that scan's number.
 unfoldable pub last_issued : Settings → Log Input → Bool
@@ -39,7 +39,7 @@ overdue_of s h = scans_with (last_ended end_overdue s) h
 
 -- Under way: 1 if a command is, after the last scan, otherwise 0
 unfoldable pub under_way_in : Status → ℕ
-under_way_in v = if idle v then 0 else 1
+under_way_in v = when idle v then 0 else 1
 
 unfoldable pub under_way_of : Settings → Log Input → ℕ
 under_way_of s h = under_way_in (book_of s h).status
@@ -47,13 +47,13 @@ under_way_of s h = under_way_in (book_of s h).status
 -- On: the sum of the periods of all scans with a sure On reading. A pretended position does not count.
 unfoldable pub on_of : Settings → Log Input → ℕ
 on_of s none = 0
-on_of s (h ▸ x) = on_of s h + (if eqb (position_read (reading s x.word)) on then x.period else 0)
+on_of s (h ▸ x) = on_of s h + (when eqb (position_read (reading s x.word)) on then x.period else 0)
 
 -- The time from issue to confirmation of each command that was confirmed, the last of them first: the periods of the scans after the one that
 -- issued it, up to and with the one that confirmed it. `book_of s h` has it under way.
 unfoldable pub times_of : Settings → Log Input → List ℕ
 times_of s none = []
-times_of s (h ▸ x) = if last_ended end_confirmed s (h ▸ x) then since (book_of s h).issue (h ▸ x) ∷ times_of s h else times_of s h
+times_of s (h ▸ x) = when last_ended end_confirmed s (h ▸ x) then since (book_of s h).issue (h ▸ x) ∷ times_of s h else times_of s h
 
 -- the least and the greatest of some numbers; 0 if there are none
 unfoldable pub least : List ℕ → ℕ

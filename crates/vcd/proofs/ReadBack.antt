@@ -9,7 +9,7 @@ use native.Mathlib.Decide.{dec_lt}
 use lib.Dec.{eqb, leb}
 use lib.ListN.{length, get_or, length-map}
 use borrow.Author.Tests.{eq-eqb, ne_eqb, le-leb, lt-leb, leb-true, leb-false}
-use Rattle.words.specs.Word.{if◌then◌else◌}
+use Rattle.words.specs.Word.{when◌then◌else◌}
 use Rattle.words.proofs.Laws.{either}
 use Rattle.sheet.specs.Number.{largest, value_from}
 use Rattle.sheet.proofs.NumberLaws.{number_spells}
@@ -35,7 +35,7 @@ SameWidth n (s ∷ ss) = (length s.signals ≡ n) × SameWidth n ss
 
 -- all values are the changes from the opposite values
 all_changes : (i : ℕ) (vs : List Bool) → values_from i vs ≡ changes_from i (map not vs) vs
-unfolding values_from changes_from change_line differs if◌then◌else◌
+unfolding values_from changes_from change_line differs when◌then◌else◌
 all_changes i [] = refl
 all_changes i (true ∷ vs) = rw (all_changes (i + 1) vs)
 all_changes i (false ∷ vs) = rw (all_changes (i + 1) vs)
@@ -57,18 +57,18 @@ timed_lines P time (b ∷ bs) rest p q = rw (append_assoc (time_line time) (b �
 
 -- A dump gives its times in ms.
 pub scale_back : (motors : ℕ) (first : List Bool) (samples : List Sample) → scale_of (recording_text motors first samples) ≡ word_one ∷ word_ms ∷ []
-unfolding scale_of scale_in same if◌then◌else◌
+unfolding scale_of scale_in same when◌then◌else◌
 scale_back motors first samples = rw (parts motors first samples, frame_start_words)
 
 wires_declare : (i number n : ℕ) (rest : List ℕ) → wires_in (words_in (wires_from i number n ++ rest)) ≡ motor_wires i number n ++ wires_in (words_in rest)
-unfolding wires_from motor_wires wire_of wires_in same if◌then◌else◌ code_of on_name off_name
+unfolding wires_from motor_wires wire_of wires_in same when◌then◌else◌ code_of on_name off_name
 wires_declare i number zero rest = refl
 wires_declare i number (suc n) rest =
     rw (motor_words i number n rest, and-false (eqb (33 + i) 36), and-false (eqb (33 + (i + 1)) 36), wires_declare (i + 2) (number + 1) n rest)
 
 -- nothing else declares one
 value_silent : (i : ℕ) (value : Bool) (rest : List ℕ) → wires_in (words_in (value_line (code_of i) value ++ rest)) ≡ wires_in (words_in rest)
-unfolding wires_in same digit_of if◌then◌else◌
+unfolding wires_in same digit_of when◌then◌else◌
 value_silent i true rest = rw (value_words i true rest)
 value_silent i false rest = rw (value_words i false rest)
 
@@ -83,7 +83,7 @@ changes_silent i (v ∷ vs) (w ∷ ws) rest =
     ∙ changes_silent (i + 1) vs ws rest)
 
 time_silent : (time : ℕ) (rest : List ℕ) → wires_in (words_in (time_line time ++ rest)) ≡ wires_in (words_in rest)
-unfolding wires_in same if◌then◌else◌
+unfolding wires_in same when◌then◌else◌
 time_silent time rest = rw (time_words time rest)
 
 samples_silent : (before : List Bool) (ss : List Sample) → wires_in (words_in (samples_text before ss)) ≡ []
@@ -98,7 +98,7 @@ samples_silent before (s ∷ ss) =
 
 -- A dump declares the wires of its motors, whatever is recorded in it.
 pub wires_back : (motors : ℕ) (first : List Bool) (samples : List Sample) → wires_of (recording_text motors first samples) ≡ motor_wires 0 1 motors
-unfolding wires_of wires_in same if◌then◌else◌
+unfolding wires_of wires_in same when◌then◌else◌
 wires_back motors first samples =
     rw (parts motors first samples, frame_start_words, wires_declare 0 1 motors, frame_end_words, time_silent 0, changes_silent 0 (map not first) first, samples_silent first samples)
     (append-nil _)
@@ -124,7 +124,7 @@ section_goes time w words e = ap (λ (b : Bool). changes_in (not b) time words) 
 -- a declaration is no change
 wire_skipped : (time i : ℕ) (name : List ℕ) (words : List (List ℕ))
     → changes_in false time (word_var ∷ word_wire ∷ word_one ∷ code_of i ∷ (109 ∷ name) ∷ word_end ∷ words) ≡ changes_in false time words
-unfolding changes_in same if◌then◌else◌ code_of
+unfolding changes_in same when◌then◌else◌ code_of
 wire_skipped time i name words = section_goes time (code_of i) ((109 ∷ name) ∷ word_end ∷ words) (and-false (eqb (33 + i) 36))
 
 module _ (code : List ℕ) (at : ℕ) where
@@ -139,34 +139,34 @@ module _ (code : List ℕ) (at : ℕ) where
       rw (motor_words i number n rest, wire_skipped time i, wire_skipped time (i + 1)) (wires_read v time (i + 2) (number + 1) n rest)
 
   start_read : (v time : ℕ) (rest : List ℕ) → reads v time (frame_start ++ rest) ≡ reads v time rest
-  unfolding reads changes_in same if◌then◌else◌
+  unfolding reads changes_in same when◌then◌else◌
   start_read v time rest = rw (frame_start_words rest)
 
   end_read : (v time : ℕ) (rest : List ℕ) → reads v time (frame_end ++ rest) ≡ reads v time rest
-  unfolding reads changes_in same if◌then◌else◌
+  unfolding reads changes_in same when◌then◌else◌
   end_read v time rest = rw (frame_end_words rest)
 
   time_read : (v time new : ℕ) (rest : List ℕ) → new ≤ largest → reads v time (time_line new ++ rest) ≡ reads v new rest
-  unfolding reads changes_in if◌then◌else◌
+  unfolding reads changes_in when◌then◌else◌
   time_read v time new rest h = rw (time_words new rest, value_decimal new h)
 
   value_read : (v time i : ℕ) (w : Bool) (rest : List ℕ)
-      → reads v time (value_line (code_of i) w ++ rest) ≡ reads (if same (code_of i) code && leb time at then bit w else v) time rest
-  unfolding reads changes_in last_value digit_of bit if◌then◌else◌
+      → reads v time (value_line (code_of i) w ++ rest) ≡ reads (when same (code_of i) code && leb time at then bit w else v) time rest
+  unfolding reads changes_in last_value digit_of bit when◌then◌else◌
   value_read v time i true rest = rw (value_words i true rest)
   value_read v time i false rest = rw (value_words i false rest)
 
   change_read : (v time i : ℕ) (changed w : Bool) (rest : List ℕ)
-      → reads v time ((if changed then value_line (code_of i) w else []) ++ rest)
-      ≡ reads (if changed && (same (code_of i) code && leb time at) then bit w else v) time rest
-  unfolding if◌then◌else◌
+      → reads v time ((when changed then value_line (code_of i) w else []) ++ rest)
+      ≡ reads (when changed && (same (code_of i) code && leb time at) then bit w else v) time rest
+  unfolding when◌then◌else◌
   change_read v time i true w rest = value_read v time i w rest
   change_read v time i false w rest = refl
 
   -- changes of other signals, or after the time asked for
   changes_pass : (v time k : ℕ) (vs ws : List Bool) (rest : List ℕ) → ((i : ℕ) → k ≤ i → i < k + length vs → same (code_of i) code && leb time at ≡ false)
       → reads v time (changes_from k vs ws ++ rest) ≡ reads v time rest
-  unfolding changes_from change_line if◌then◌else◌
+  unfolding changes_from change_line when◌then◌else◌
   changes_pass v time k [] ws rest none = refl
   changes_pass v time k (x ∷ vs) [] rest none = refl
   changes_pass v time k (x ∷ vs) (y ∷ ws) rest none =
@@ -187,8 +187,8 @@ module _ (code : List ℕ) (at : ℕ) where
 -- the changes of signal i, which is signal j of those from signal k on
 changes_read : (i at v time k j : ℕ) (vs ws : List Bool) (rest : List ℕ) → i ≡ k + j → j < length vs → j < length ws → time ≤ at
     → reads (code_of i) at v time (changes_from k vs ws ++ rest)
-    ≡ reads (code_of i) at (if differs (get_or vs j false) (get_or ws j false) then bit (get_or ws j false) else v) time rest
-unfolding changes_from change_line if◌then◌else◌
+    ≡ reads (code_of i) at (when differs (get_or vs j false) (get_or ws j false) then bit (get_or ws j false) else v) time rest
+unfolding changes_from change_line when◌then◌else◌
 changes_read i at v time k j [] ws rest e h g l = absurd (omega arith)
 changes_read i at v time k j (x ∷ vs) [] rest e h g l = absurd (omega arith)
 changes_read i at v time k zero (x ∷ vs) (y ∷ ws) rest e h g l =
@@ -200,8 +200,8 @@ changes_read i at v time k (suc j) (x ∷ vs) (y ∷ ws) rest e h g l =
     (changes_read i at v time (k + 1) j vs ws rest (omega arith) (omega arith) (omega arith) l)
 
 -- the value before is right if nothing changed
-settled : (x y : Bool) → (if differs x y then bit y else bit x) ≡ bit y
-unfolding differs if◌then◌else◌
+settled : (x y : Bool) → (when differs x y then bit y else bit x) ≡ bit y
+unfolding differs when◌then◌else◌
 settled true true = refl
 settled true false = refl
 settled false true = refl
@@ -219,7 +219,7 @@ later_unread code at v time from before (s ∷ ss) h r =
     (λ u. later_unread code at v u s.time s.signals ss (omega arith) r.2)
 
 later_signals : (at from : ℕ) (before : List Bool) (ss : List Sample) → at < from → Rising from ss → signals_at before ss at ≡ before
-unfolding signals_at if◌then◌else◌
+unfolding signals_at when◌then◌else◌
 later_signals at from before [] h r = refl
 later_signals at from before (s ∷ ss) h r =
     let new : from ≤ s.time = r.0 in rw (lt-leb s.time at (omega arith)) (later_signals at s.time before ss (omega arith) r.2)
@@ -227,7 +227,7 @@ later_signals at from before (s ∷ ss) h r =
 -- from the right value before the samples to the right value after them
 samples_read : (i at v time from n : ℕ) (before : List Bool) (ss : List Sample) → Rising from ss → SameWidth n ss → length before ≡ n → i < n
     → v ≡ bit (get_or before i false) → reads (code_of i) at v time (samples_text before ss) ≡ bit (get_or (signals_at before ss at) i false)
-unfolding samples_text signals_at if◌then◌else◌ reads words_in parts_of present changes_in last_value
+unfolding samples_text signals_at when◌then◌else◌ reads words_in parts_of present changes_in last_value
 samples_read i at v time from n before [] r l m h e = e
 samples_read i at v time from n before (s ∷ ss) r l m h e =
     go (leb s.time at) refl (λ u. samples_read i at (bit (get_or s.signals i false)) u s.time n s.signals ss r.2 l.1 l.0 h refl)
@@ -238,7 +238,7 @@ samples_read i at v time from n before (s ∷ ss) r l m h e =
     go : (b : Bool) → leb s.time at ≡ b
         → ((u : ℕ) → reads (code_of i) at (bit (get_or s.signals i false)) u later ≡ bit (get_or (signals_at s.signals ss at) i false))
         → reads (code_of i) at v time (timed s.time (changes_from 0 before s.signals) ++ later)
-        ≡ bit (get_or (signals_at (if b then s.signals else before) ss at) i false)
+        ≡ bit (get_or (signals_at (when b then s.signals else before) ss at) i false)
     go true f ih =
         timed_read (code_of i) at v _ time s.time _ (changes_from 0 before s.signals) later r.1
         (λ rest. changes_read i at v s.time 0 i before s.signals rest (omega arith) (omega arith) (omega (arith, l.0)) (leb-true s.time at f)
@@ -262,7 +262,7 @@ opposite (v ∷ vs) (suc i) h = opposite vs i (omega arith)
 -- Each signal has at each time the value that was recorded for it.
 pub values_back : (motors : ℕ) (first : List Bool) (samples : List Sample) → Rising 0 samples → SameWidth (length first) samples → (i time : ℕ)
     → i < length first → value_at (recording_text motors first samples) (code_of i) time ≡ bit (get_or (signals_at first samples time) i false)
-unfolding value_at reads if◌then◌else◌
+unfolding value_at reads when◌then◌else◌
 values_back motors first samples r l i time h =
     let all = map not first in
     let later = samples_text first samples in
@@ -279,7 +279,7 @@ values_back motors first samples r l i time h =
 pub signals_width : (before : List Bool) (ss : List Sample) (at n : ℕ) → length before ≡ n → SameWidth n ss → length (signals_at before ss at) ≡ n
 unfolding signals_at
 signals_width before [] at n h l = h
-signals_width before (s ∷ ss) at n h l = signals_width (if leb s.time at then s.signals else before) ss at n (either (λ (vs : List Bool). length vs ≡ n) (leb s.time at) l.0 h) l.1
+signals_width before (s ∷ ss) at n h l = signals_width (when leb s.time at then s.signals else before) ss at n (either (λ (vs : List Bool). length vs ≡ n) (leb s.time at) l.0 h) l.1
 
 -- what each code has is what each wire has
 wires_have : (f : List ℕ → ℕ) (i number n : ℕ) (vs : List Bool) → length vs ≡ 2 * n → ((j : ℕ) → j < length vs → f (code_of (i + j)) ≡ bit (get_or vs j false))

@@ -6,7 +6,7 @@ use mathlib.Core.List.{List, [], ◌∷◌, ◌++◌, append_assoc}
 use native.Mathlib.Decide.{dec_lt}
 use native.Mathlib.Omega.{arith}
 use borrow.Author.Tests.{ne_eqb, not-true}
-use Rattle.words.specs.Word.{if◌then◌else◌}
+use Rattle.words.specs.Word.{when◌then◌else◌}
 use Rattle.words.proofs.Laws.{and_true}
 use Rattle.sheet.specs.Split.{LF, joined, join_first}
 use Rattle.report.specs.Print.{digits_of, decimal}
@@ -56,7 +56,7 @@ spaceless_decimal n = spaceless_digits 10 n
 
 -- a byte of white space ends a word
 part_ends : (w : List ℕ) (space : ℕ) (rest : List ℕ) → spaceless w ≡ true → is_space space ≡ true → parts_of (w ++ space ∷ rest) ≡ w ∷ parts_of rest
-unfolding parts_of spaceless join_first if◌then◌else◌
+unfolding parts_of spaceless join_first when◌then◌else◌
 part_ends [] space rest e s = rw s
 part_ends (b ∷ w) space rest e s =
     let f = and_true (not (is_space b)) (spaceless w) e in rw (not-true (is_space b) f.0, part_ends w space rest f.1 s)
@@ -116,6 +116,6 @@ unfolding time_line all_plain plain spaceless is_space
 time_words time rest = words_of_line (35 ∷ decimal time) [] rest (rw (spaceless_decimal time))
 
 pub value_words : (i : ℕ) (value : Bool) (rest : List ℕ) → words_in (value_line (code_of i) value ++ rest) ≡ (digit_of value ∷ code_of i) ∷ words_in rest
-unfolding value_line all_plain plain spaceless is_space code_of digit_of if◌then◌else◌
+unfolding value_line all_plain plain spaceless is_space code_of digit_of when◌then◌else◌
 value_words i true rest = words_of_line (49 ∷ code_of i) [] rest (rw (visible (33 + i) (omega arith)))
 value_words i false rest = words_of_line (48 ∷ code_of i) [] rest (rw (visible (33 + i) (omega arith)))

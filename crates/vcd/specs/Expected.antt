@@ -1,6 +1,6 @@
 -- What a reader should find: the wires of so many motors, and at each time "the outputs after the last scan not later than it".
 use Rattle.std.specs.Prelude.{ℕ, zero, suc, ◌+◌, Bool, List, [], ◌∷◌, leb}
-use Rattle.words.specs.Word.{if◌then◌else◌}
+use Rattle.words.specs.Word.{when◌then◌else◌}
 use Rattle.vcd.specs.Text.{word_one, word_wire, code_of, on_name, off_name, Sample}
 use Rattle.vcd.specs.Reader.{Wire}
 
@@ -16,7 +16,7 @@ motor_wires i number (suc n) = wire_of (code_of i) (on_name number) ∷ wire_of 
 -- The signals at a time: "the outputs after the last scan not later than it", and before the first of these scans those of `before`
 unfoldable pub signals_at : List Bool → List Sample → ℕ → List Bool
 signals_at before [] time = before
-signals_at before (s ∷ ss) time = signals_at (if leb s.time time then s.signals else before) ss time
+signals_at before (s ∷ ss) time = signals_at (when leb s.time time then s.signals else before) ss time
 
 unfoldable pub bit : Bool → ℕ
-bit b = if b then 1 else 0
+bit b = when b then 1 else 0

@@ -2,7 +2,7 @@
 -- time. Of IEEE 1364 it takes in declarations, times, and values 0, 1, x, z of single wires outside any `$..` section; `scale_in` and `wires_in` do
 -- not ask about sections.
 use Rattle.std.specs.Prelude.{ℕ, ◌-◌, Bool, true, false, not, ◌&&◌, ◌||◌, List, [], ◌∷◌, eqb, leb, get_or, take}
-use Rattle.words.specs.Word.{if◌then◌else◌}
+use Rattle.words.specs.Word.{when◌then◌else◌}
 use Rattle.sheet.specs.Split.{join_first}
 use Rattle.sheet.specs.Number.{value_from}
 
@@ -24,7 +24,7 @@ is_space b = eqb b 9 || eqb b 10 || eqb b 13 || eqb b 32
 
 unfoldable pub parts_of : List ℕ → List (List ℕ)
 parts_of [] = [] ∷ []
-parts_of (b ∷ bs) = if is_space b then [] ∷ parts_of bs else join_first b (parts_of bs)
+parts_of (b ∷ bs) = when is_space b then [] ∷ parts_of bs else join_first b (parts_of bs)
 
 unfoldable pub present : List (List ℕ) → List (List ℕ)
 present [] = []
@@ -44,7 +44,7 @@ same (x ∷ xs) (y ∷ ys) = eqb x y && same xs ys
 -- `$timescale`, a number, a unit, `$end`: number and unit of the first that there is, nothing if there is none
 unfoldable pub scale_in : List (List ℕ) → List (List ℕ)
 scale_in [] = []
-scale_in (w ∷ ws) = if same w scale_word then take 2 ws else scale_in ws
+scale_in (w ∷ ws) = when same w scale_word then take 2 ws else scale_in ws
 
 -- `$var`, a kind, a size, a code, a name, `$end` declares a wire
 pub record Wire : Type 0 where
@@ -56,7 +56,7 @@ pub record Wire : Type 0 where
 unfoldable pub wires_in : List (List ℕ) → List Wire
 wires_in [] = []
 wires_in (w ∷ ws) =
-    if same w var_word then record { kind = get_or ws 0 []; size = get_or ws 1 []; code = get_or ws 2 []; name = get_or ws 3 [] } ∷ wires_in ws
+    when same w var_word then record { kind = get_or ws 0 []; size = get_or ws 1 []; code = get_or ws 2 []; name = get_or ws 3 [] } ∷ wires_in ws
     else wires_in ws
 
 -- One of some wires has this code
@@ -83,16 +83,16 @@ changes_in section time [] = []
 changes_in true time (w ∷ ws) = changes_in (not (same w end_word)) time ws
 changes_in false time ([] ∷ ws) = changes_in false time ws
 changes_in false time ((b ∷ bs) ∷ ws) =
-    if eqb b 36 then changes_in true time ws
-    else if eqb b 35 then changes_in false (value_from 0 bs) ws
-    else if eqb b 48 || eqb b 49 then record { time = time; code = bs; value = b - 48 } ∷ changes_in false time ws
-    else if is_unknown b then record { time = time; code = bs; value = unknown } ∷ changes_in false time ws
+    when eqb b 36 then changes_in true time ws
+    else when eqb b 35 then changes_in false (value_from 0 bs) ws
+    else when eqb b 48 || eqb b 49 then record { time = time; code = bs; value = b - 48 } ∷ changes_in false time ws
+    else when is_unknown b then record { time = time; code = bs; value = unknown } ∷ changes_in false time ws
     else changes_in false time ws
 
 -- The value of a signal at a time: that of its last change not later than the time, and unknown before its first
 unfoldable pub last_value : ℕ → List Change → List ℕ → ℕ → ℕ
 last_value v [] code time = v
-last_value v (c ∷ cs) code time = last_value (if same c.code code && leb c.time time then c.value else v) cs code time
+last_value v (c ∷ cs) code time = last_value (when same c.code code && leb c.time time then c.value else v) cs code time
 
 -- What a dump says
 unfoldable pub scale_of : List ℕ → List (List ℕ)

@@ -1,7 +1,7 @@
 -- The text of a value change dump (IEEE 1364), as change request 5 gives it: words parted by blanks, in lines.
 use Rattle.std.specs.Prelude.{ℕ, zero, suc, ◌+◌, Bool, not, List, [], ◌∷◌, ◌++◌}
 use Rattle.std.specs.Bool.{beq}
-use Rattle.words.specs.Word.{if◌then◌else◌}
+use Rattle.words.specs.Word.{when◌then◌else◌}
 use Rattle.sheet.specs.Split.{LF, joined}
 use Rattle.report.specs.Print.{decimal}
 
@@ -92,7 +92,7 @@ time_line time = word_line ((35 ∷ decimal time) ∷ [])
 
 -- `1!` or `0!`
 unfoldable pub digit_of : Bool → ℕ
-digit_of value = if value then 49 else 48
+digit_of value = when value then 49 else 48
 
 unfoldable pub value_line : List ℕ → Bool → List ℕ
 value_line code value = word_line ((digit_of value ∷ code) ∷ [])
@@ -107,7 +107,7 @@ unfoldable pub differs : Bool → Bool → Bool
 differs v w = not (beq v w)
 
 unfoldable pub change_line : List ℕ → Bool → Bool → List ℕ
-change_line code v w = if differs v w then value_line code w else []
+change_line code v w = when differs v w then value_line code w else []
 
 unfoldable pub changes_from : ℕ → List Bool → List Bool → List ℕ
 changes_from i [] ws = []

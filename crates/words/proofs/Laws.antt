@@ -12,7 +12,7 @@ use lib.Arith.{lt-one}
 use lib.Pow.{pow_pos, pow-lt, pow_mono, pow-add, shl_lt, shl_exact, shr_lt, shr-shr, ones_lt, high_ones}
 use lib.Bits.{bit_and, bit_or, or_lt, and_le_l, and_high, and_step, and_shr, and_mod, or_add_and}
 use borrow.Author.Tests.{lt-ltb, ltb-true, ltb-false, leb-true, eq-eqb, ne_eqb, eqb-true, eqb-false}
-use Rattle.words.specs.Word.{if◌then◌else◌, bit_of, is_set, rose, without, without_bits, without_bit, with_bit}
+use Rattle.words.specs.Word.{when◌then◌else◌, bit_of, is_set, rose, without, without_bits, without_bit, with_bit}
 
 -- a bit is 0 or 1
 pub bit_lt : (k w : ℕ) → bit_of k w < 2
@@ -38,7 +38,7 @@ and_bit k w = ap (bit_and w) (sym (high_ones 1 k ∙ one_bit k)) ∙ and_high w 
 
 -- setting a bit
 pub or_bit : (k w : ℕ) → k < 32 → bit_or w (2 ^ k) ≡ with_bit k w
-unfolding with_bit if◌then◌else◌
+unfolding with_bit when◌then◌else◌
 or_bit k w h =
     rw (lt-ltb k 32 h) (omega (arith, or_add_and w (2 ^ k), and_bit k w, part (bit_of k w) (2 ^ k) (bit_lt k w)))
   where
@@ -146,7 +146,7 @@ set_shr : (k w : ℕ) → (w + (1 - bit_of k w) * 2 ^ k) / 2 ^ k ≡ w / 2 ^ k +
 set_shr k w = add-mul-div_right w (1 - bit_of k w) (pow_pos k)
 
 pub set_has : (k w : ℕ) → k < 32 → is_set k (with_bit k w) ≡ true
-unfolding is_set bit_of with_bit if◌then◌else◌
+unfolding is_set bit_of with_bit when◌then◌else◌
 set_has k w h = rw (lt-ltb k 32 h) (eq-eqb ((w + (1 - w / 2 ^ k % 2) * 2 ^ k) / 2 ^ k % 2) 1 (rw (set_shr k w) (omega arith)))
 
 -- a multiple of what bit j counts changes no bit below it
@@ -163,7 +163,7 @@ low_kept j k w x h =
 
 -- setting a bit changes no other
 pub set_keeps : (j k w : ℕ) → j ≢ k → is_set k (with_bit j w) ≡ is_set k w
-unfolding with_bit bit_of if◌then◌else◌
+unfolding with_bit bit_of when◌then◌else◌
 set_keeps j k w ne = go (ltb j 32) (ltb j k) refl
   where
     odd : (w / 2 ^ j + (1 - w / 2 ^ j % 2)) / 2 ≡ w / 2 ^ j / 2
@@ -172,7 +172,7 @@ set_keeps j k w ne = go (ltb j 32) (ltb j k) refl
     half : (w + (1 - bit_of j w) * 2 ^ j) / 2 ^ (j + 1) ≡ w / 2 ^ (j + 1)
     half = sym (shr-shr (w + (1 - bit_of j w) * 2 ^ j) j 1) ∙ ap (λ (n : ℕ). n / 2) (set_shr j w) ∙ odd ∙ shr-shr w j 1
 
-    go : (b above : Bool) → ltb j k ≡ above → is_set k (if b then w + (1 - bit_of j w) * 2 ^ j else w) ≡ is_set k w
+    go : (b above : Bool) → ltb j k ≡ above → is_set k (when b then w + (1 - bit_of j w) * 2 ^ j else w) ≡ is_set k w
     go true true e = from_quotient (j + 1) k w _ (let h = ltb-true j k e in omega arith) half
     go true false e = low_kept j k w _ (let h = ltb-false j k e in omega arith)
     go false above e = refl
@@ -216,19 +216,19 @@ unfolding without_bit is_set bit_of
 clear_has k w = ne_eqb (without_bits k 1 w / 2 ^ k % 2) 1 (λ e. let h = (cleared k 1 w).high in omega arith)
 
 -- a choice has what both of its arms have
-pub either {ℓ} : {A : Type ℓ} (P : A → Type 0) (b : Bool) {x y : A} → P x → P y → P (if b then x else y)
-unfolding if◌then◌else◌
+pub either {ℓ} : {A : Type ℓ} (P : A → Type 0) (b : Bool) {x y : A} → P x → P y → P (when b then x else y)
+unfolding when◌then◌else◌
 either P true p q = p
 either P false p q = q
 
 -- what is taken of a choice is taken of each of its arms
-pub if_map {ℓ κ} : {A : Type ℓ} {B : Type κ} (f : A → B) (b : Bool) (x y : A) → f (if b then x else y) ≡ (if b then f x else f y)
-unfolding if◌then◌else◌
+pub if_map {ℓ κ} : {A : Type ℓ} {B : Type κ} (f : A → B) (b : Bool) (x y : A) → f (when b then x else y) ≡ (when b then f x else f y)
+unfolding when◌then◌else◌
 if_map f true x y = refl
 if_map f false x y = refl
 
 -- bounds
-pub if_lt : {n : ℕ} (b : Bool) {x y : ℕ} → x < n → y < n → (if b then x else y) < n
+pub if_lt : {n : ℕ} (b : Bool) {x y : ℕ} → x < n → y < n → (when b then x else y) < n
 if_lt {n} b = either (λ (k : ℕ). k < n) b
 
 pub with_lt : (n k w : ℕ) → n ≤ 32 → k < n → w < 2 ^ n → with_bit k w < 2 ^ n

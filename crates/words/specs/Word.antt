@@ -3,11 +3,11 @@
 use Rattle.std.specs.Prelude.{ℕ, ◌+◌, ◌-◌, ◌*◌, ◌/◌, ◌%◌, ◌^◌, Bool, true, false, not, ◌&&◌, eqb, ltb}
 use Rattle.std.specs.Int.Bits.{bit_and}
 
-infixr 10 if◌then◌else◌
+infixr 10 when◌then◌else◌
 -- one of two, by a test
-unfoldable pub if◌then◌else◌ {ℓ} : {A : Type ℓ} → Bool → A → A → A
-if◌then◌else◌ true a b = a
-if◌then◌else◌ false a b = b
+unfoldable pub when◌then◌else◌ {ℓ} : {A : Type ℓ} → Bool → A → A → A
+when◌then◌else◌ true a b = a
+when◌then◌else◌ false a b = b
 
 -- bit k of a word, 0 or 1
 unfoldable pub bit_of : ℕ → ℕ → ℕ
@@ -35,4 +35,4 @@ without_bit k w = without_bits k 1 w
 
 -- a word with bit k set; a bit that a word does not have cannot be set
 unfoldable pub with_bit : ℕ → ℕ → ℕ
-with_bit k w = if ltb k 32 then w + (1 - bit_of k w) * 2 ^ k else w
+with_bit k w = when ltb k 32 then w + (1 - bit_of k w) * 2 ^ k else w

@@ -3,7 +3,7 @@
 #![tactic(auto)]
 
 ghost use Rattle.std.specs.Prelude.{◌≡◌};
-ghost use Rattle.words.specs.Word.{if◌then◌else◌, bit_of, is_set, without, with_bit, without_bit, rose};
+ghost use Rattle.words.specs.Word.{when◌then◌else◌, bit_of, is_set, without, with_bit, without_bit, rose};
 
 // Bit k of w, 0 or 1.
 pub fn bit(w: u32, k: u32) -> u32
@@ -49,7 +49,7 @@ pub fn without_bit(w: u32, k: u32) -> u32
 
 // One of two numbers: a if the test holds.
 pub fn choose(test: bool, a: u32, b: u32) -> u32
-    ensures { result ≡ (if test then a else b) }
+    ensures { result ≡ (when test then a else b) }
 {
     if test { a } else { b }
 }

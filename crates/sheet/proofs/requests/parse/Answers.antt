@@ -3,7 +3,7 @@ use mathlib.Core.Bool.{◌&&◌}
 use Prim.Native.Nat.{ℕ}
 use Rattle.std.specs.Prelude.{List}
 use lib.Dec.{eqb}
-use Rattle.words.specs.Word.{if◌then◌else◌}
+use Rattle.words.specs.Word.{when◌then◌else◌}
 use Rattle.sheet.specs.Split.{field_of, field_count}
 use Rattle.sheet.specs.Grammar.{letter_of, is_kind, request_of}
 use Rattle.sheet.proofs.requests.parse.Goals as goal
@@ -15,26 +15,26 @@ unfolding is_kind
 kind l f k n a b d letter count = rw (a, b, d)
 
 pub returns-then-kind-count : goal.returns-then-kind-count
-unfolding request_of if◌then◌else◌
+unfolding request_of when◌then◌else◌
 returns-then-kind-count c =
     let k = kind _ _ _ _ c.letter-kind.ensures c.first.ensures c.count_fields-count.ensures in
     c.motor_line.ensures ∙ sym (rw (k 77 6 ∙ c.if-kind-count.true))
 
 pub returns-then-kind-count-2 : goal.returns-then-kind-count-2
-unfolding request_of if◌then◌else◌
+unfolding request_of when◌then◌else◌
 returns-then-kind-count-2 c =
     let k = kind _ _ _ _ c.letter-kind.ensures c.first.ensures c.count_fields-count.ensures in
     c.input_line.ensures ∙ sym (rw (k 77 6 ∙ c.if-kind-count.false, k 73 3 ∙ c.if-kind-count-2.true))
 
 pub returns-then-kind-count-3 : goal.returns-then-kind-count-3
-unfolding request_of if◌then◌else◌
+unfolding request_of when◌then◌else◌
 returns-then-kind-count-3 c =
     let k = kind _ _ _ _ c.letter-kind.ensures c.first.ensures c.count_fields-count.ensures in
     c.scan_line.ensures
     ∙ sym (rw (k 77 6 ∙ c.if-kind-count.false, k 73 3 ∙ c.if-kind-count-2.false, k 83 2 ∙ c.if-kind-count-3.true))
 
 pub returns : goal.returns
-unfolding request_of if◌then◌else◌
+unfolding request_of when◌then◌else◌
 returns c =
     let k = kind _ _ _ _ c.letter-kind.ensures c.first.ensures c.count_fields-count.ensures in
     sym (rw (k 77 6 ∙ c.if-kind-count.false, k 73 3 ∙ c.if-kind-count-2.false, k 83 2 ∙ c.if-kind-count-3.false))

@@ -1,7 +1,7 @@
 use native.Mathlib.Omega.{arith}
 use Prim.Native.Nat.{◌+◌, ◌-◌}
 use mathlib.Core.Path.{◌≡◌, refl, sym, ◌∙◌}
-use Rattle.words.specs.Word.{if◌then◌else◌}
+use Rattle.words.specs.Word.{when◌then◌else◌}
 use Rattle.rules.specs.Steps.{chosen}
 use Rattle.status.proofs.Tables.{first_from, first_none}
 use Rattle.status.proofs.choice.choice.Goals as goal
@@ -11,13 +11,13 @@ unfolding chosen
 loop-c-init c = (omega arith, omega arith, refl)
 
 pub returns-then-is_candidate : goal.returns-then-is_candidate
-unfolding if◌then◌else◌
+unfolding when◌then◌else◌
 returns-then-is_candidate c =
     let l = c.loop-c in
     sym (l.invariant.2 ∙ first_from _ l.c l.invariant.0 c.loop-c-test.true ∙ rw (sym c.is_candidate.ensures ∙ c.if-is_candidate.true) refl)
 
 pub loop-c-preserved : goal.loop-c-preserved
-unfolding if◌then◌else◌
+unfolding when◌then◌else◌
 loop-c-preserved c =
     let l = c.loop-c in
     let e : l.c + 1 - 1 ≡ l.c = omega arith in (
