@@ -8,12 +8,13 @@ use native.Mathlib.Numerals.{add-one}
 use lib.Dec.{eqb}
 use lib.ListN.{length, take, set, get_or, length-append, length-map, get_or-map}
 use lib.Seq.{take-suc, take-suc-set, take_all, length-take-le}
+use borrow.Author.Tests.{eq-eqb, ne_eqb}
 use Rattle.words.specs.Word.{when◌then◌else◌}
 use Rattle.words.proofs.Laws.{either}
 use Rattle.rules.specs.declared.Motor.{Motor}
 use Rattle.rules.specs.Record.{output_on, output_off}
 use Rattle.sheet.specs.Split.{joined}
-use Rattle.vcd.specs.Text.{code_of, wires_from, value_line, values_from, word_line, differs, change_line, changes_from, timed}
+use Rattle.vcd.specs.Text.{opening_of, code_of, wires_from, value_line, values_from, word_line, differs, change_line, changes_from, timed}
 use Rattle.vcd.proofs.TextLaws.{both_wires, wires_last, values_append, changes_append, timed_length, opening_length}
 use Rattle.dump.specs.Dump.{output_state, output_states, state_signals, signals_of, opening}
 use Rattle.dump.specs.Advance.{first_text, scan_text}
@@ -154,6 +155,16 @@ module _ (ms : List Motor) (held : ℕ) (h : held ≤ length ms) where
   unfolding scan_by scan_text signals_of
   scan_is ns scans time =
       rw (first_is scans, ← states_take held ms, ← states_take held ns)
+
+-- ---- header and #0, where no scan ran yet
+
+pub first_none_ran : (scans held : ℕ) (states : List ℕ) → scans ≡ 0 → first_by scans held states ≡ opening_of held (state_signals states)
+unfolding first_by when◌then◌else◌
+first_none_ran scans held states e = rw (eq-eqb scans 0 e)
+
+pub first_some_ran : (scans held : ℕ) (states : List ℕ) → (scans ≡ 0 → ⊥) → first_by scans held states ≡ []
+unfolding first_by when◌then◌else◌
+first_some_ran scans held states h = rw (ne_eqb scans 0 h)
 
 -- ---- lengths
 

@@ -84,6 +84,7 @@ fn put_opening(out: &mut [u8], at: usize, states: [u32; MOST_MOTORS], held: usiz
 }
 
 // Header and #0, if no scan ran yet.
+#[tactic(auto, using(crate::proofs::SignalLaws::first_none_ran, crate::proofs::SignalLaws::first_some_ran, report::proofs::PutLaws::put_none))]
 pub fn put_first(
     out: &mut [u8],
     at: usize,
