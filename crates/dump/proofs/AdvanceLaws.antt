@@ -23,7 +23,7 @@ use Rattle.sheet.proofs.RequestLaws.{taken as Taken-step}
 use Rattle.report.specs.Put.{Put}
 use Rattle.report.proofs.PutLaws.{put_none, put_length, then as and_then}
 use Rattle.interpreter.specs.State.{State, next_number, with_motor, with_words, with_word, scan_refusal, with_scan, refusal_for, changed, state_after, view_of}
-use Rattle.interpreter.specs.Lines.{InputLines, Run}
+use Rattle.interpreter.specs.Lines.{InputLines, InputRun}
 use Rattle.interpreter.specs.Lines.InputLines.{none as no_line, one_more}
 use Rattle.interpreter.specs.declared.Bench.{Bench}
 use Rattle.interpreter.specs.declared.Acted.{Acted}
@@ -156,7 +156,7 @@ module _ {file : List ℕ} {s : Recording} {out : List ℕ} {to last : ℕ} wher
       }
 
   module _ {here : Recording} {after : List ℕ} {n : ℕ} (r : Scans file s out to last after (record { recording = here; to = n })) (i : Inputs) (is : length here.bench.motors ≡ 32)
-      (run : Run file (min here.bench.count most_motors) here.bench.words here.at 0 i) where
+      (run : InputRun file (min here.bench.count most_motors) here.bench.words here.at 0 i) where
     -- a run of I lines more
     pub scans_inputs : Scans file s out to last after (record { recording = after_run here i; to = n })
     scans_inputs =

@@ -3,7 +3,7 @@
 ghost use Rattle.std.specs.Prelude.{◌≡◌};
 ghost use Rattle.rules.specs.Refusals.{one_refusal};
 ghost use Rattle.rules.specs.Steps.{step};
-ghost use Rattle.interpreter.specs.Lines.{Ready};
+ghost use Rattle.interpreter.specs.Lines.{ReadyBench};
 ghost use Rattle.dump.specs.Advance.{Scans, Over, Room};
 
 use crate::signals::{output_states, put_scan};
@@ -42,7 +42,7 @@ fn stepped(m: Motor, word: u32, period: u32) -> Motor
 // them would copy them.
 #[tactic(auto, unfolding(rules::specs::Refusals::most_motors))]
 fn scan_lines(file: &[u8], s: Recording, out: &mut [u8], to: usize, last: usize) -> Recorded
-    requires { Room out.old to last × Ready s.bench }
+    requires { Room out.old to last × ReadyBench s.bench }
     ensures { Scans file.now s out.old to last out.new result × Over file.now last result }
 {
     let bench = s.bench;

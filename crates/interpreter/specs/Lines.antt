@@ -16,10 +16,15 @@ use Rattle.interpreter.specs.declared.lines.NextScan.TheVariants.{Period, Other 
 abbrev pub NoInput : List ℕ → ℕ → ℕ → Type 0
 NoInput file held at = (number word next : ℕ) → next_at file at ≡ Taken (I number word) next → input_refusal held number word ≡ 0 → ⊥
 
--- What is found at a place: such a line, or none.
+-- The line at a place is an I line that is accepted where so many motors are held; of any other answer nothing is said.
 abbrev pub Found : List ℕ → ℕ → ℕ → NextInput → Type 0
 Found file held at (Word number word next) = (next_at file at ≡ Taken (I number word) next) × (input_refusal held number word ≡ 0)
-Found file held at Other = NoInput file held at
+Found file held at Other = Unit {0}
+
+-- And none is missed: after any other answer no such line stands there.
+abbrev pub NoneMissed : List ℕ → ℕ → ℕ → NextInput → Type 0
+NoneMissed file held at (Word number word next) = Unit {0}
+NoneMissed file held at Other = NoInput file held at
 
 -- I lines accepted one after another, from a place on: the words, the place and the line's number that they lead to
 pub data InputLines (file : List ℕ) (held : ℕ) (words : List ℕ) (at line : ℕ) : List ℕ → ℕ → ℕ → Type 0 where
@@ -28,7 +33,7 @@ pub data InputLines (file : List ℕ) (held : ℕ) (words : List ℕ) (at line :
       → input_refusal held number word ≡ 0 → InputLines file held words at line (set later (number - 1) word) next (next_number k)
 
 -- All of them, up to the first line that is refused or of another kind
-pub record Run (file : List ℕ) (held : ℕ) (words : List ℕ) (at line : ℕ) (r : Inputs) : Type 0 where
+pub record InputRun (file : List ℕ) (held : ℕ) (words : List ℕ) (at line : ℕ) (r : Inputs) : Type 0 where
   pub lines : InputLines file held words at line r.words r.at r.line
   pub over : NoInput file held r.at
 
@@ -38,6 +43,6 @@ FoundScan file at (Period period next) = (next_at file at ≡ Taken (S period) n
 FoundScan file at Stop = (period next : ℕ) → next_at file at ≡ Taken (S period) next → period_ok period ≡ false
 
 -- What a scan of a bench needs besides its period: every record and every word in use is in its range.
-pub record Ready (b : Bench) : Type 0 where
+pub record ReadyBench (b : Bench) : Type 0 where
   pub records : all_ok in_range (take (min b.count most_motors) b.motors) ≡ true
   pub words : all_ok word_ok (take (min b.count most_motors) b.words) ≡ true

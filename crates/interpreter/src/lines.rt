@@ -1,7 +1,7 @@
 // Lines read ahead of what they do: runs of I lines, which touch nothing but the words that the motors hold, and S lines.
 ghost use Rattle.std.specs.Prelude.{min};
 ghost use Rattle.rules.specs.Refusals.{most_motors};
-ghost use Rattle.interpreter.specs.Lines.{Found, Run, FoundScan};
+ghost use Rattle.interpreter.specs.Lines.{Found, NoneMissed, InputRun, FoundScan};
 
 use crate::acts::{in_use, input_refusal, next_number};
 use sheet::{Next, Request, next_request};
@@ -23,7 +23,8 @@ pub struct Inputs {
 }
 
 fn next_input(file: &[u8], held: usize, at: usize) -> NextInput
-    ensures { Found file.now held at result }
+    ensures found { Found file.now held at result }
+    ensures missed { NoneMissed file.now held at result }
 {
     // no line but one that begins with I need be read twice
     if !sheet::is_at(file, at, b'I') {
@@ -49,7 +50,7 @@ pub fn take_inputs(
     at: usize,
     line: u32,
 ) -> Inputs
-    ensures { Run file.now (min count most_motors) words at line result }
+    ensures { InputRun file.now (min count most_motors) words at line result }
 {
     let held = in_use(count);
     let mut words = words;

@@ -25,19 +25,19 @@ use Rattle.report.specs.Print.{refusal_of}
 use Rattle.report.proofs.PutLaws.{put_none, put_length, then as and_then}
 use Rattle.report.proofs.PrintLaws.{refusal_length}
 use Rattle.interpreter.specs.State.{State, empty_state, next_number, with_words, with_word, refusal_for, changed, state_after, view_of, too_long}
-use Rattle.interpreter.specs.Lines.{InputLines, Run}
+use Rattle.interpreter.specs.Lines.{InputLines, InputRun}
 use Rattle.interpreter.specs.Lines.InputLines.{none as no_line, one_more}
 use Rattle.print.specs.Print.{rows_of, answer_of}
 use Rattle.print.specs.Advance.{place_of, at_end, Through, most_put, NoScan, opening, Begin, Advance, Fill}
 use Rattle.print.specs.Advance.Through.{none, accepted, refused, ended}
-use Rattle.print.specs.Runs.{Scans, Room}
+use Rattle.print.specs.Runs.{Run, Scans, Room}
 use Rattle.interpreter.specs.declared.Bench.{Bench}
 use Rattle.interpreter.specs.declared.Acted.{Acted}
 use Rattle.interpreter.specs.declared.lines.Inputs.{Inputs}
 use Rattle.print.specs.declared.Sitting.{Sitting}
 use Rattle.print.specs.declared.Advanced.{Advanced}
 use Rattle.interpreter.proofs.ActLaws.{accepted as is-changed, input_there, used, scan_refusal_lem, scanned_state}
-use Rattle.interpreter.proofs.LineLaws.{same_size, onward, inside}
+use Rattle.interpreter.proofs.LineLaws.{same_size, words_right, onward, inside}
 use Rattle.print.proofs.PrintLaws.{answer_length, end_length, through_then}
 
 -- a bench at a place of a file
@@ -123,6 +123,17 @@ inputs_through {held = held} t count e f (one_more {later} {number = number} {wo
     let n = input_there held number word h in
     rw (← word_set t count number word later n.0 (omega (arith, n.1))) (accepted (inputs_through t count e f s) found (rw e h))
 
+-- what a run of I lines does to a print
+pub run_of_inputs : (file words : List ℕ) (held at line : ℕ) (i : Inputs) → InputRun file held words at line i → Run file held words at line i
+run_of_inputs file words held at line i r =
+    record {
+      through = λ t count e f. inputs_through t count e f r.lines;
+      size = same_size r.lines;
+      right = words_right r.lines;
+      onward = onward r.lines;
+      within = inside r.lines;
+    }
+
 -- ---- runs of I and S lines
 
 -- the sitting after a run
@@ -165,7 +176,7 @@ module _ {file : List ℕ} {s : Sitting} {out : List ℕ} {to last : ℕ} where
 
   module _ {here : Sitting} {after : List ℕ} {n : ℕ} (r : Scans file s out to last after (record { sitting = here; to = n })) where
     -- a run of I lines more
-    pub scans_inputs : (i : Inputs) → length here.bench.motors ≡ 32 → Run file (min here.bench.count most_motors) here.bench.words here.at here.line i
+    pub scans_inputs : (i : Inputs) → length here.bench.motors ≡ 32 → InputRun file (min here.bench.count most_motors) here.bench.words here.at here.line i
         → Scans file s out to last after (record { sitting = after_run here i; to = n })
     unfolding with_words
     scans_inputs i is run =
@@ -182,7 +193,7 @@ module _ {file : List ℕ} {s : Sitting} {out : List ℕ} {to last : ℕ} where
     -- a run of I lines and an S line more: `records` are the motors after its scan, and `totals` their totals
     pub scans_more : (i : Inputs) {period next m : ℕ} {records : List Motor} {totals : List Totals} {later : List ℕ} → length here.bench.motors ≡ 32
         → length here.bench.totals ≡ 32 → length here.bench.words ≡ 32
-        → Run file (min here.bench.count most_motors) here.bench.words here.at here.line i → next_at file i.at ≡ Taken (S period) next
+        → InputRun file (min here.bench.count most_motors) here.bench.words here.at here.line i → next_at file i.at ≡ Taken (S period) next
         → part_refusal here.bench.motors (min here.bench.count most_motors) i.words period ≡ 0
         → records ≡ part_after here.bench.motors (min here.bench.count most_motors) i.words period
         → totals ≡ all_totals here.bench.totals here.bench.motors (take (min here.bench.count most_motors) i.words) period → n ≤ last → last + most_put ≤ length out

@@ -29,7 +29,7 @@ use Rattle.report.specs.Put.{Put}
 use Rattle.report.specs.Print.{row_of}
 use Rattle.report.proofs.PutLaws.{put_none, then as and_then}
 use Rattle.interpreter.specs.State.{next_number}
-use Rattle.interpreter.specs.Lines.{Run, Ready}
+use Rattle.interpreter.specs.Lines.{InputRun, ReadyBench}
 use Rattle.print.specs.Print.{motor_row, rows_of}
 use Rattle.print.specs.Advance.{most_put}
 use Rattle.print.specs.Runs.{Scans}
@@ -114,7 +114,7 @@ module _ {motors₀ : List Motor} {totals₀ : List Totals} {words : List ℕ} {
 
 -- ---- a run of I lines and an S line, whose motors are all scanned and printed
 
-module _ {file : List ℕ} {s : Sitting} {out : List ℕ} {to last : ℕ} {here : Sitting} {after : List ℕ} {n : ℕ} (r : Scans file s out to last after (record { sitting = here; to = n })) (i : Inputs) (is : length here.bench.motors ≡ 32) (ts : length here.bench.totals ≡ 32) (js : length here.bench.words ≡ 32) (ready : Ready here.bench) (run : Run file (min here.bench.count most_motors) here.bench.words here.at here.line i) where
+module _ {file : List ℕ} {s : Sitting} {out : List ℕ} {to last : ℕ} {here : Sitting} {after : List ℕ} {n : ℕ} (r : Scans file s out to last after (record { sitting = here; to = n })) (i : Inputs) (is : length here.bench.motors ≡ 32) (ts : length here.bench.totals ≡ 32) (js : length here.bench.words ≡ 32) (ready : ReadyBench here.bench) (run : InputRun file (min here.bench.count most_motors) here.bench.words here.at here.line i) where
   abbrev held : ℕ
   held = min here.bench.count most_motors
 
@@ -149,7 +149,7 @@ module _ {file : List ℕ} {s : Sitting} {out : List ℕ} {to last : ℕ} {here 
       size = same_size scan ∙ is
 
       pub line_scanned : n ≤ last → last + most_put ≤ length out
-          → (length motors ≡ 32) × (length totals ≡ 32) × (length i.words ≡ 32) × Ready after_scan.sitting.bench × Scans file s out to last later after_scan
+          → (length motors ≡ 32) × (length totals ≡ 32) × (length i.words ≡ 32) × ReadyBench after_scan.sitting.bench × Scans file s out to last later after_scan
       line_scanned h room = (
         size,
         same_totals scan ∙ ts,

@@ -2,8 +2,7 @@
 // bench is dear to copy.
 ghost use Rattle.std.specs.Prelude.{◌≡◌};
 ghost use Rattle.print.specs.Print.{motor_row};
-ghost use Rattle.interpreter.specs.Lines.{Ready};
-ghost use Rattle.print.specs.Runs.{Room, Scans, Over};
+ghost use Rattle.print.specs.Runs.{Ready, Room, Scans, Over};
 
 use crate::{Advanced, Sitting};
 use interpreter::{Bench, NextScan, in_use, next_number, next_scan, take_inputs};
@@ -40,7 +39,7 @@ fn row(scan: u32, number: u32, m: Motor) -> Row
 // they are: two loops in one function, for a call with the motors would copy them.
 #[tactic(auto, unfolding(rules::specs::Refusals::most_motors))]
 fn scan_lines(file: &[u8], s: Sitting, out: &mut [u8], to: usize, last: usize) -> Advanced
-    requires { Room out.old to last × Ready s.bench }
+    requires { Room out.old to last × Ready s }
     ensures { Scans file.now s out.old to last out.new result × Over file.now last result }
 {
     let bench = s.bench;

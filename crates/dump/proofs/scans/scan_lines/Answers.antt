@@ -8,7 +8,7 @@ use Rattle.rules.specs.Refusals.{most_motors, one_refusal, part_refusal, step_al
 use Rattle.rules.proofs.Tables.{none_stepped, not_yet, length_step_all, part_stepped}
 use Rattle.table.proofs.Rows.{blank}
 use Rattle.sheet.proofs.RequestLaws.{taken}
-use Rattle.interpreter.specs.Lines.{FoundScan, Ready, Run}
+use Rattle.interpreter.specs.Lines.{FoundScan, ReadyBench, InputRun}
 use Rattle.interpreter.specs.declared.Bench.{Bench}
 use Rattle.interpreter.specs.declared.lines.Inputs.{Inputs}
 use Rattle.interpreter.specs.declared.lines.NextScan.TheVariants.{Period}
@@ -20,8 +20,8 @@ use Rattle.dump.proofs.scans.scan_lines.Invariants.{bench_of}
 use Rattle.dump.proofs.scans.scan_lines.Goals as goal
 
 -- after a run of I lines from a bench that is ready, where an S line is found: the motors and words of the scan
-module _ (b : Bench) (is : length b.motors ≡ 32) (js : length b.words ≡ 32) (ready : Ready b) (file : List ℕ) (at : ℕ) (i : Inputs)
-    (run : Run file (min b.count most_motors) b.words at 0 i) (period next : ℕ) (found : FoundScan file i.at (Period period next)) where
+module _ (b : Bench) (is : length b.motors ≡ 32) (js : length b.words ≡ 32) (ready : ReadyBench b) (file : List ℕ) (at : ℕ) (i : Inputs)
+    (run : InputRun file (min b.count most_motors) b.words at 0 i) (period next : ℕ) (found : FoundScan file i.at (Period period next)) where
   sized : length i.words ≡ 32
   sized = same_size run.lines ∙ js
 

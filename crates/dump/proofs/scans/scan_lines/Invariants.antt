@@ -5,7 +5,7 @@ use lib.ListN.{length, take}
 use Rattle.rules.specs.declared.Motor.{Motor}
 use Rattle.rules.specs.Refusals.{step_all}
 use Rattle.totals.specs.declared.Totals.{Totals}
-use Rattle.interpreter.specs.Lines.{Ready}
+use Rattle.interpreter.specs.Lines.{ReadyBench}
 use Rattle.interpreter.specs.declared.Bench.{Bench}
 use Rattle.dump.specs.Dump.{output_states}
 use Rattle.dump.specs.Advance.{Scans}
@@ -26,7 +26,7 @@ decreases-loop-i l = l.held - l.i
 abbrev pub invariant-loop-to : goal.invariant-loop-to
 invariant-loop-to l =
     let b = bench_of l.motors l.totals l.words l.count l.scans in
-    (length l.motors ≡ 32) × (length l.words ≡ 32) × (l.shown ≡ output_states l.motors) × Ready b
+    (length l.motors ≡ 32) × (length l.words ≡ 32) × (l.shown ≡ output_states l.motors) × ReadyBench b
     × Scans l.file l.fn.s l.fn.out l.fn.to l.last l.out (standing b l.at l.time l.to)
 
 abbrev pub decreases-loop-to : goal.decreases-loop-to

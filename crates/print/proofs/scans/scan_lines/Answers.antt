@@ -24,7 +24,7 @@ loop-to-init c =
     let is : length c.args.s.bench.motors ≡ 32 = omega arith in
     let ts : length c.args.s.bench.totals ≡ 32 = omega arith in
     let js : length c.args.s.bench.words ≡ 32 = omega arith in
-    (is, ts, js, c.requires.1, scans_none c.requires.0.begins)
+    (is, ts, js, record { records = c.requires.1.records; words = c.requires.1.words }, scans_none c.requires.0.begins)
 
 pub returns-in_default : goal.returns-in_default
 returns-in_default c =

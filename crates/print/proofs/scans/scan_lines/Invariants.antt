@@ -4,7 +4,7 @@ use mathlib.Core.List.{List}
 use lib.ListN.{length}
 use Rattle.rules.specs.declared.Motor.{Motor}
 use Rattle.totals.specs.declared.Totals.{Totals}
-use Rattle.interpreter.specs.Lines.{Ready}
+use Rattle.interpreter.specs.Lines.{ReadyBench}
 use Rattle.print.specs.Runs.{Scans}
 use Rattle.print.specs.declared.Sitting.{Sitting}
 use Rattle.print.proofs.ScanLaws.{Scanning}
@@ -16,7 +16,7 @@ sit motors totals words count scans at line = record { bench = record { motors =
 
 -- the lines taken so far, and what a scan of the bench needs
 abbrev pub invariant-loop-to : goal.invariant-loop-to
-invariant-loop-to l = (length l.motors ≡ 32) × (length l.totals ≡ 32) × (length l.words ≡ 32) × Ready (sit l.motors l.totals l.words l.count l.scans l.at l.line).bench
+invariant-loop-to l = (length l.motors ≡ 32) × (length l.totals ≡ 32) × (length l.words ≡ 32) × ReadyBench (sit l.motors l.totals l.words l.count l.scans l.at l.line).bench
     × Scans l.file (sit l.initial.motors l.initial.totals l.initial.words l.count l.initial.scans l.initial.at l.initial.line) l.initial.out l.initial.to l.last l.out (record { sitting = sit l.motors l.totals l.words l.count l.scans l.at l.line; to = l.to })
 
 abbrev pub decreases-loop-to : goal.decreases-loop-to
