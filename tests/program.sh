@@ -1,5 +1,5 @@
 #!/usr/bin/env bash
-# What the two programs do with their surroundings: input in pieces, none, too much of it, and an output that is closed.
+# What the two programs do with their surroundings: input in pieces, none, too much of it, one that cannot be read, and an output that is closed.
 set -euo pipefail
 cd "$(dirname "$0")/.."
 program=$PWD/crates/bench/out/bench

@@ -3,7 +3,7 @@
 apostrophe. Types and modules are in camel case already. The choice of words/specs is written with `when`, since `if` is the
 library's own word for another definition, and no other may stand under it.
 
-usage: python3 tools/spell.py [--show]     at the top of the repository, once, after port.py
+usage: python3 tools/spell.py [--show]     at the top of the repository, once, after port.py. It stops where it has run before.
 
 It goes by the names that specs/ and proofs/ define, and writes each wherever it stands in these, in the clauses of src/, in must-fail
 edits, and between backticks in the pages. Names that answer a goal of Rattle's own are left.
@@ -14,13 +14,15 @@ import re
 import sys
 
 ROOT = "."
+# A word of the text, as antt has it.
 WORD = re.compile(r"[^\s(){}\[\],;.:`\"⌜⌝|]+")
 DEFINES = re.compile(r"^\s*(?:--.*|(?:(?:unfoldable|abbrev) )?(?:pub )?(?:record |data )?([^\s(){},;.:]+)\s*(?:\{[^}]*\}\s*|\([^)]*\)\s*)*:(?: (.*))?)$")
+# What the pattern above takes for a definition and is none.
 KEEP = {"use", "where", "module", "let"}
-# Lemmas whose new name a definition has, or gets: of a lemma that would have its function's name.
+# Lemmas that would get the name of a definition, and lemmas whose name a definition gets: each ends in _lem.
 LEMMAS = {"with-flags", "field-of", "in-range"}
-BEFORE = {"digits_number": "crates/sheet/", "is_digit": "crates/report/proofs/", "rest_from": ("crates/dump/proofs/", "crates/print/proofs/"),
-          "with_mode": "crates/rules/proofs/"}
+BEFORE = {"digits_number": "crates/sheet/", "is_digit": "crates/report/proofs/", "with_mode": "crates/rules/proofs/",
+          "rest_from": ("crates/dump/proofs/", "crates/print/proofs/", "crates/interpreter/proofs/")}
 # Names that port.py has respelled in specs/, proofs/ and src/; must-fail edits and pages still have the old ones.
 RESPELLED = """
 add-spec added-is after-first after-is agree-at all-are all-back all-more all-set all-snoc all-tested all-whole allRows
@@ -43,6 +45,7 @@ valueOf values-length valuesOf viewOf visible-more with-mode withFlags withWords
 word-kept word-set word-some wordAt wordIn wordLine wordOf words-are words-right wordsIn wordsOf written-back
 zero-number zero-right
 """.split()
+# Names that look like those that Rattle makes (MADE), and are this repository's own.
 OWN = {"in-time", "if-keeps", "if-zero", "in-range", "in-test", "in-front", "in-one-scan", "if-map", "if-lt"}
 MADE = re.compile(r"^(loop|returns|if|in|then|else|invariant|decreases|overflow|ghost|the)-")
 
@@ -166,6 +169,9 @@ def turned_edit(text, to):
 
 
 def main():
+    with open(os.path.join(ROOT, "crates/words/specs/Word.antt"), encoding="utf-8") as f:
+        if "when◌then◌else◌" in f.read():
+            sys.exit("tools/spell.py: it has run here before")
     to, goals = defined()
     seen = all_words()
     if "--show" in sys.argv:
@@ -184,7 +190,7 @@ def main():
         return
     both = {**{n: spelling(n) for n in RESPELLED}, **to}
     for folder, dirs, files in os.walk(ROOT):
-        dirs[:] = sorted(d for d in dirs if d not in ("out", ".git", "target", "shared"))
+        dirs[:] = sorted(d for d in dirs if d not in ("out", ".git", "target"))
         for f in sorted(files):
             p = os.path.join(folder, f)
             if f.endswith(".antt"):
@@ -205,4 +211,5 @@ def main():
                 open(p, "w", encoding="utf-8").write(new)
 
 
-main()
+if __name__ == "__main__":
+    main()
