@@ -90,6 +90,7 @@ pub fn input_refusal(held: usize, number: u32, word: u32) -> u32
 }
 
 // M: a fresh motor, which holds the word 0, after those that are there.
+#[tactic(auto, using(crate::proofs::ActLaws::motor_room), unfolding(rules::specs::Refusals::most_motors))]
 fn add(b: Bench, number: u32, s: Settings) -> Acted
     ensures { (result.refusal ≡ refusal_for (view_of b) (M number s.ops1 s.ops2 s.w s.u)) × (view_of result.bench ≡ state_after (view_of b) (M number s.ops1 s.ops2 s.w s.u)) }
 {
@@ -108,6 +109,7 @@ fn add(b: Bench, number: u32, s: Settings) -> Acted
 }
 
 // I: the word that a motor holds from now on.
+#[tactic(auto, using(crate::proofs::ActLaws::input_there), unfolding(rules::specs::Refusals::most_motors))]
 fn set_word(b: Bench, number: u32, word: u32) -> Acted
     ensures { (result.refusal ≡ refusal_for (view_of b) (I number word)) × (view_of result.bench ≡ state_after (view_of b) (I number word)) }
 {
@@ -131,6 +133,7 @@ pub fn scan_refusal(b: Bench, period: u32) -> u32
 }
 
 // The totals after a scan of the first motors, with their records before it and after it.
+#[tactic(auto, unfolding(rules::specs::Refusals::most_motors))]
 fn all_totals(
     totals: [Totals; MOST_MOTORS],
     motors: [Motor; MOST_MOTORS],

@@ -43,6 +43,7 @@ fn next_input(file: &[u8], held: usize, at: usize) -> NextInput
 }
 
 // The I lines from a place on, up to the first line that is refused or of another kind.
+#[tactic(auto, using(crate::proofs::ActLaws::input_there), unfolding(rules::specs::Refusals::most_motors))]
 pub fn take_inputs(
     file: &[u8],
     count: usize,

@@ -86,6 +86,7 @@ fn totals_row(number: u32, m: Motor, t: Totals) -> TotalsRow
 }
 
 // What is printed at the end of a file: the T lines of a bench.
+#[tactic(auto, unfolding(rules::specs::Refusals::most_motors))]
 fn put_end(b: Bench, out: &mut [u8], to: usize) -> usize
     ensures { Put out.old to (at_end (view_of b)) out.new result }
 {

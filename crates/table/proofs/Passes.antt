@@ -1,7 +1,7 @@
 -- The two passes of `scan` over lists, with no memory: the refusal once i records are tested, the table once j are stepped, what a turn makes of each, and what they come to.
 -- Assumes nothing.
 use mathlib.Core.Path.{◌≡◌, refl, sym}
-use Prim.Native.Nat.{ℕ, suc, ◌<◌, ◌≤◌, ◌^◌, ◌+◌}
+use Prim.Native.Nat.{ℕ, zero, suc, ◌<◌, ◌≤◌, ◌^◌, ◌+◌}
 use native.Mathlib.Nat.{not-suc-le-zero}
 use native.Mathlib.Numerals.{add-one}
 use native.Mathlib.Omega.{arith}
@@ -34,6 +34,11 @@ code_more true true true true w = refl
 code_fits : (x q y : Bool) → code x q y < 2 ^ 32
 unfolding code
 code_fits x q y = if_lt _ (lit< tt) (if_lt _ (lit< tt) (if_lt _ (lit< tt) (lit< tt)))
+
+-- a count whose places all lie in a list is no longer than the list
+within : (k n : ℕ) → ((i : ℕ) → i < k → i < n) → k ≤ n
+within zero n h = omega arith
+within (suc k) n h = let l = h k (omega arith) in omega arith
 
 -- ---- the first pass: the refusal once i records are tested. Each lemma is by the outcome z of the test of the lengths
 module _ (ms : List Motor) (ws : List ℕ) (p : ℕ) where
@@ -73,9 +78,12 @@ module _ (ms : List Motor) (ws : List ℕ) (p : ℕ) where
   unfolding first_code code_at code_by code all_ok when◌then◌else◌
   code_start = refl
 
-  pub test_in : (i : ℕ) → i < to_test N K → (i < N) × (i < K)
+  test_in : (i : ℕ) → i < to_test N K → (i < N) × (i < K)
   unfolding to_test
   test_in i l = in_test (misfit N K) refl i l
+
+  pub few_tested : (to_test N K ≤ N) × (to_test N K ≤ K)
+  few_tested = (within _ N (λ i l. (test_in i l).0), within _ K (λ i l. (test_in i l).1))
 
   pub code_turn : (d : Motor) (i : ℕ) → i < to_test N K → next_code (code_at i) (get_or ms i d) (get_or ws i 0) ≡ code_at (i + 1)
   unfolding code_at to_test
@@ -123,9 +131,12 @@ module _ (ms : List Motor) (ws : List ℕ) (p : ℕ) where
   unfolding table_at
   table_start = start_by (eqb R 0)
 
-  pub step_in : (j : ℕ) → j < to_step R N → (j < N) × (j < K)
+  step_in : (j : ℕ) → j < to_step R N → (j < N) × (j < K)
   unfolding to_step
   step_in j l = in_step (eqb R 0) refl j l
+
+  pub few_stepped : (to_step R N ≤ N) × (to_step R N ≤ K)
+  few_stepped = (within _ N (λ j l. (step_in j l).0), within _ K (λ j l. (step_in j l).1))
 
   pub table_turn : (d : Motor) (j : ℕ) → j < to_step R N → set (table_at j) j (one_after (get_or (table_at j) j d) (get_or ws j 0) p) ≡ table_at (j + 1)
   unfolding table_at to_step

@@ -90,6 +90,7 @@ pub fn scan(table: &mut [Motor], words: &[u32], period: u32) -> u32
 }
 
 // The refusal of a scan of the first `count` records of an array, which is not made.
+#[tactic(auto, unfolding(rules::specs::Refusals::most_motors))]
 pub fn refusal_array(
     records: [Motor; MOST_MOTORS],
     count: usize,

@@ -28,18 +28,3 @@ returns c =
     let few = c.if-count-gt-MOST_MOTORS.false in
     let i : l.i ≡ c.args.count = omega (arith, l.invariant.0) in
     l.invariant.1 ∙ rw i (part_end c.args.records c.args.words c.args.count c.args.period few (omega arith) (omega arith))
-
-pub offset_bounds-records-i : goal.offset_bounds-records-i
-offset_bounds-records-i c = omega (arith, c.if-count-gt-MOST_MOTORS.false)
-
-pub bounds-records-i : goal.bounds-records-i
-bounds-records-i c = omega (arith, c.if-count-gt-MOST_MOTORS.false)
-
-pub offset_bounds-words-i : goal.offset_bounds-words-i
-offset_bounds-words-i c = omega (arith, c.if-count-gt-MOST_MOTORS.false)
-
-pub bounds-words-i : goal.bounds-words-i
-bounds-words-i c = omega (arith, c.if-count-gt-MOST_MOTORS.false)
-
-pub overflow_add-i : goal.overflow_add-i
-overflow_add-i c = omega (arith, c.if-count-gt-MOST_MOTORS.false)

@@ -19,27 +19,6 @@ room : (n scans number : ℕ) (s : Settings) {r : ℕ} → r ≡ motor_refusal n
 unfolding most_motors
 room n scans number s f z = motor_room n scans number s (sym f ∙ z)
 
-pub offset_bounds-n-at : goal.offset_bounds-n-at
-offset_bounds-n-at c = omega (arith, room _ _ _ _ c.motor_refusal-refusal.ensures c.if-refusal-eq0.true)
-
-pub bounds-n-at : goal.bounds-n-at
-bounds-n-at c = omega (arith, room _ _ _ _ c.motor_refusal-refusal.ensures c.if-refusal-eq0.true)
-
-pub offset_bounds-n-at-then-refusal-eq0 : goal.offset_bounds-n-at-then-refusal-eq0
-offset_bounds-n-at-then-refusal-eq0 c = omega (arith, room _ _ _ _ c.motor_refusal-refusal.ensures c.if-refusal-eq0.true)
-
-pub bounds-n-at-then-refusal-eq0 : goal.bounds-n-at-then-refusal-eq0
-bounds-n-at-then-refusal-eq0 c = omega (arith, room _ _ _ _ c.motor_refusal-refusal.ensures c.if-refusal-eq0.true)
-
-pub offset_bounds-n-at-then-refusal-eq0-2 : goal.offset_bounds-n-at-then-refusal-eq0-2
-offset_bounds-n-at-then-refusal-eq0-2 c = omega (arith, room _ _ _ _ c.motor_refusal-refusal.ensures c.if-refusal-eq0.true)
-
-pub bounds-n-at-then-refusal-eq0-2 : goal.bounds-n-at-then-refusal-eq0-2
-bounds-n-at-then-refusal-eq0-2 c = omega (arith, room _ _ _ _ c.motor_refusal-refusal.ensures c.if-refusal-eq0.true)
-
-pub overflow_add-n : goal.overflow_add-n
-overflow_add-n c = omega (arith, room _ _ _ _ c.motor_refusal-refusal.ensures c.if-refusal-eq0.true)
-
 pub returns-then-refusal-eq0 : goal.returns-then-refusal-eq0
 unfolding most_motors
 returns-then-refusal-eq0 c =

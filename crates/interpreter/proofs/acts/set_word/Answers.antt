@@ -19,15 +19,6 @@ there : (count number word : ℕ) {n r : ℕ} → n ≡ min count most_motors �
     → (1 ≤ number) × (number ≤ min count most_motors)
 there count number word e f z = input_there _ number word (rw e at (sym f ∙ z))
 
-pub overflow_sub-at : goal.overflow_sub-at
-overflow_sub-at c = omega (arith, (there c.args.b.count c.args.number c.args.word c.in_use.ensures c.input_refusal-refusal.ensures c.if-refusal-eq0.true).0)
-
-pub bounds-n-at : goal.bounds-n-at
-unfolding most_motors
-bounds-n-at c =
-    let h = there c.args.b.count c.args.number c.args.word c.in_use.ensures c.input_refusal-refusal.ensures c.if-refusal-eq0.true in
-    omega (arith, h.0, h.1)
-
 pub returns-then-refusal-eq0 : goal.returns-then-refusal-eq0
 returns-then-refusal-eq0 c =
     let is : length c.args.b.motors ≡ 32 = omega arith in

@@ -1,5 +1,4 @@
 use native.Mathlib.Omega.{arith}
-use Prim.Native.Nat.{◌<◌}
 use mathlib.Core.Path.{◌≡◌}
 use lib.ListN.{length}
 use Rattle.rules.specs.Refusals.{most_motors}
@@ -19,9 +18,6 @@ pub loop-i-preserved : goal.loop-i-preserved
 unfolding most_motors
 loop-i-preserved c =
     let b = c.args.b in
-    let is : length c.args.b.motors ≡ 32 = omega arith in
-    let ts : length c.args.b.totals ≡ 32 = omega arith in
-    let here : c.loop-i.i < 32 = omega arith in
     (omega arith, rw (totals_more c.loop-i.i b.motors b.totals blank no_totals (omega arith) (omega arith)) (then c.loop-i.invariant.1 (rw c.totals_row.ensures at c.put_totals-to.ensures)))
 
 pub returns : goal.returns
@@ -32,34 +28,6 @@ returns c =
     let ts : length c.args.b.totals ≡ 32 = omega arith in
     let h : c.loop-i.i ≡ c.in_use-held.result = omega arith in
     rw (take_used b.count b.motors is, take_used b.count b.totals ts, ← c.in_use-held.ensures, ← h) c.loop-i.invariant.1
-
-pub offset_bounds-b-i : goal.offset_bounds-b-i
-unfolding most_motors
-offset_bounds-b-i c = omega arith
-
-pub bounds-b-i : goal.bounds-b-i
-unfolding most_motors
-bounds-b-i c = omega arith
-
-pub offset_bounds-b-i-in-loop-i : goal.offset_bounds-b-i-in-loop-i
-unfolding most_motors
-offset_bounds-b-i-in-loop-i c = omega arith
-
-pub bounds-b-i-in-loop-i : goal.bounds-b-i-in-loop-i
-unfolding most_motors
-bounds-b-i-in-loop-i c = omega arith
-
-pub overflow_cast-i : goal.overflow_cast-i
-unfolding most_motors
-overflow_cast-i c = omega arith
-
-pub overflow_add-i : goal.overflow_add-i
-unfolding most_motors
-overflow_add-i c = omega arith
-
-pub overflow_add-i-in-loop-i : goal.overflow_add-i-in-loop-i
-unfolding most_motors
-overflow_add-i-in-loop-i c = omega arith
 
 pub shape_of-out : goal.shape_of-out
 shape_of-out c = put_length c.loop-i.invariant.1
