@@ -1,16 +1,13 @@
 // The bench program: reads a file from standard input, and prints what the block reports of it.
 #![tactic(auto)]
 
-ghost use Rattle.std.specs.Prelude.{◌≡◌, take, IfOk, IfSome, OnOk};
+ghost use Rattle.std.specs.Prelude.{IfSome, OnOk};
 ghost use Rattle.std.specs.Io.KnownBytes.{Appends};
 ghost use Rattle.print.specs.Print.{print_of};
 
 use std::alloc::Global;
 use std::io;
 use std::io::{Read, Write};
-
-// One byte more than a file may have, so that a longer one shows.
-const ROOM_IN: usize = 65537;
 
 // As much as a pipe holds, so that prints cost few writes.
 const ROOM_OUT: usize = 65536;
@@ -31,20 +28,11 @@ fn print<W: Write>(file: &[u8], to: &mut W) -> io::Result<()>
     Ok(())
 }
 
-// What stands in a reader, or as much of it as shows that it is too long.
-fn read_front<R: Read + Drop>(alloc: Global, from: R) -> io::Result<Vec<u8>>
-    ensures { IfOk result (λ file. IfSome (R.remaining from) (λ all. file.items ≡ take 65537 all)) }
-{
-    let mut file = Vec::with_capacity(alloc, ROOM_IN)?;
-    from.take(ROOM_IN as u64).read_to_end(&mut file)?;
-    Ok(file)
-}
-
 // The print of what stands in a reader.
 fn run<R: Read + Drop, W: Write>(alloc: Global, from: R, to: &mut W) -> io::Result<()>
     ensures { OnOk result (IfSome (R.remaining from) (λ file. Appends (W.contents to.old) (W.contents to.new) (print_of file))) }
 {
-    let file = read_front(alloc, from)?;
+    let file = input::read_front(alloc, from)?;
     print(&file, to)
 }
 

@@ -1,16 +1,13 @@
 // The waveform program: reads a file from standard input, and prints its value change dump.
 #![tactic(auto)]
 
-ghost use Rattle.std.specs.Prelude.{◌≡◌, take, IfOk, IfSome, OnOk};
+ghost use Rattle.std.specs.Prelude.{IfSome, OnOk};
 ghost use Rattle.std.specs.Io.KnownBytes.{Appends};
 ghost use Rattle.dump.specs.Dump.{dump_of};
 
 use std::alloc::Global;
 use std::io;
 use std::io::{Read, Write};
-
-// One byte more than a file may have, so that a longer one shows.
-const ROOM_IN: usize = 65537;
 
 // As much as a pipe holds, so that dumps cost few writes.
 const ROOM_OUT: usize = 65536;
@@ -29,20 +26,11 @@ fn print<W: Write>(file: &[u8], to: &mut W) -> io::Result<()>
     Ok(())
 }
 
-// What stands in a reader, or as much of it as shows that it is too long.
-fn read_front<R: Read + Drop>(alloc: Global, from: R) -> io::Result<Vec<u8>>
-    ensures { IfOk result (λ file. IfSome (R.remaining from) (λ all. file.items ≡ take 65537 all)) }
-{
-    let mut file = Vec::with_capacity(alloc, ROOM_IN)?;
-    from.take(ROOM_IN as u64).read_to_end(&mut file)?;
-    Ok(file)
-}
-
 // The dump of what stands in a reader.
 fn run<R: Read + Drop, W: Write>(alloc: Global, from: R, to: &mut W) -> io::Result<()>
     ensures { OnOk result (IfSome (R.remaining from) (λ file. Appends (W.contents to.old) (W.contents to.new) (dump_of file))) }
 {
-    let file = read_front(alloc, from)?;
+    let file = input::read_front(alloc, from)?;
     print(&file, to)
 }
 

@@ -1,5 +1,5 @@
-use Rattle.wave.proofs.Whole.{front_known}
-use Rattle.wave.proofs.read_front.Goals as goal
+use Rattle.input.proofs.Front.{front_known}
+use Rattle.input.proofs.read_front.Goals as goal
 
 pub returns : goal.returns
 returns g c =
