@@ -1,45 +1,50 @@
--- A buffer filled line by line. Assumes nothing.
-use Rattle.std.proofs.Common.{ℕ, ◌-◌, ◌<◌, ◌≤◌, List, ◌++◌, length, length-append, arith}
-use Rattle.report.specs.Put.{Put}
-use Rattle.report.proofs.PutLaws.{put_length, then as and_then}
-use Rattle.course.specs.Walk.{Walk, Room, Advance, Scans}
-use Rattle.course.specs.Laws.{Laws}
+-- A page filled line by line. Assumes nothing.
+use Rattle.std.proofs.Common.{ℕ, ◌+◌, ◌-◌, ◌<◌, ◌≤◌, List, [], ◌++◌, length, length-append, arith}
+use Rattle.report.specs.Puts.{Puts}
+use Rattle.report.specs.declared.page.Page.{Page}
+use Rattle.report.proofs.PutLaws.{put_length, puts_none, puts_then}
+use Rattle.course.specs.Walk.{Walk, place, Leads, Room, Advance, Scans}
+use Rattle.course.specs.Through.Through.{none}
+use Rattle.course.proofs.ThroughLaws.{through_then}
 
-pub record Filling {S : Type 0} (w : Walk S) (file : List ℕ) (s : S) (out : List ℕ) (here : S) (after : List ℕ) (to : ℕ) : Type 0 where
-  pub done : List ℕ
-  pub put : Put out 0 done after to
-  pub fits : length done ≤ length out
-  pub through : w.through file s done here
-  pub onward : w.at s ≤ w.at here
-  pub moved : 0 < to → w.at s < w.at here
+pub record Filling {C : Type 0} (w : Walk C) (file : List ℕ) (c : C) (page : Page) (here : C) (after : Page) : Type 0 where
+  pub piece : List ℕ
+  pub through : Leads w file c piece here
+  pub put : Puts page piece after
+  pub fits : page.used ≤ length page.bytes.now → page.used + length piece ≤ length page.bytes.now
+  pub onward : place w c ≤ place w here
+  pub moved : page.used < after.used → place w c < place w here
 
-module _ {S : Type 0} {w : Walk S} {most : ℕ} (laws : Laws w most) {file : List ℕ} {s : S} {out : List ℕ} {here : S} {after : List ℕ} {to : ℕ}
-    (f : Filling w file s out here after to) {t : S} {mid : List ℕ} {n : ℕ} (c : Scans w most file here after to t mid n) where
-  -- a run of lines more, so far as it gets further
-  run_more : w.at here < w.at t → Filling w file s out t mid n
-  run_more far =
+pub nothing_yet : {C : Type 0} {w : Walk C} {file : List ℕ} {c : C} {page : Page} → Filling w file c page c page
+nothing_yet = record { piece = []; through = none; put = puts_none; fits = λ l. omega arith; onward = omega arith; moved = λ l. absurd (omega arith) }
+
+module _ {C : Type 0} {w : Walk C} {file : List ℕ} {c here d : C} {page after mid : Page} (f : Filling w file c page here after)
+    (run : Scans w file here after d mid) where
+  fitting : (page.used ≤ length page.bytes.now) → page.used + (length f.piece + length run.piece) ≤ length page.bytes.now
+  fitting l = omega (arith, f.fits l, f.put.put.place, put_length f.put.put, run.fits)
+
+  -- a run that used up the room that there was
+  pub run_to_the_end : Room w after → length mid.bytes.now - mid.used < w.most_put → Filling w file c page d mid
+  run_to_the_end room full =
+      let far = run.moved (omega (arith, run.put.put.place, put_length run.put.put)) in
       record {
-        done = f.done ++ c.piece;
-        put = and_then f.put c.put;
-        fits = omega (arith, length-append f.done c.piece, c.fits, f.put.place, f.fits, put_length f.put);
-        through = laws.then f.through c.through;
+        piece = f.piece ++ run.piece;
+        through = through_then f.through run.through;
+        put = puts_then f.put run.put;
+        fits = λ l. omega (arith, length-append f.piece run.piece, fitting l);
         onward = omega (arith, f.onward, far);
         moved = λ l. omega (arith, f.onward, far);
       }
 
-  -- it does where it used up the room that there was
-  pub run_to_the_end : Room most after to → length mid - n < most → Filling w file s out t mid n
-  run_to_the_end room full = run_more (c.moved (omega (arith, c.put.place, put_length c.put)))
-
   -- a run, and one line more
-  pub run_and_line : {u : S} {later : List ℕ} {m : ℕ} → Room most mid n → Advance w most file t mid n u later m → Filling w file s out u later m
-  run_and_line {u} room a =
-      let far : w.at here < w.at u = omega (arith, c.onward, a.further) in
+  pub run_and_line : {e : C} {later : Page} → Room w mid → Advance w file d mid e later → Filling w file c page e later
+  run_and_line room a =
+      let far = a.further in
       record {
-        done = f.done ++ (c.piece ++ a.piece);
-        put = and_then f.put (and_then c.put a.put);
-        fits = omega (arith, length-append f.done (c.piece ++ a.piece), length-append c.piece a.piece, c.fits, f.put.place, f.fits, put_length f.put, c.put.place, put_length c.put, a.short);
-        through = laws.then f.through (laws.then c.through a.through);
-        onward = omega (arith, f.onward, far);
-        moved = λ l. omega (arith, f.onward, far);
+        piece = f.piece ++ (run.piece ++ a.piece);
+        through = through_then f.through (through_then run.through a.through);
+        put = puts_then f.put (puts_then run.put a.put);
+        fits = λ l. omega (arith, length-append f.piece (run.piece ++ a.piece), length-append run.piece a.piece, fitting l, f.put.put.place, put_length f.put.put, run.put.put.place, put_length run.put.put, a.short);
+        onward = omega (arith, f.onward, run.onward, far);
+        moved = λ l. omega (arith, f.onward, run.onward, far);
       }

@@ -1,3 +1,4 @@
+pub mod ThroughLaws
 pub mod Filling
-pub mod Written
 pub mod Pieces
+pub mod Written

@@ -3,31 +3,38 @@ use Rattle.std.proofs.Common.{ℕ, ◌<◌, List, [], ◌++◌, length, sym, sub
 use Rattle.std.specs.Prelude.{Option}
 use Rattle.std.specs.Io.KnownBytes.{Appends}
 use Rattle.std.proofs.KnownBytes.{Appends-trans}
-use Rattle.course.specs.Walk.{Walk}
-use Rattle.course.specs.Laws.{Laws}
+use Rattle.report.specs.declared.page.Page.{Page}
+use Rattle.course.specs.Walk.{Walk, place, Leads, Begin}
+use Rattle.course.specs.Through.Through.{none}
+use Rattle.course.proofs.ThroughLaws.{through_then}
 
 -- what stands before the lines, and what those from the beginning up to here print
-pub record Written {S : Type 0} (w : Walk S) (file : List ℕ) (before after : Option (List ℕ)) (here : S) : Type 0 where
-  pub start : S
-  pub begins : w.begins file start
+pub record Written {C : Type 0} (w : Walk C) (file : List ℕ) (before after : Option (List ℕ)) (here : C) : Type 0 where
+  pub start : C
+  pub page : Page
+  pub begun : Page
+  pub begin : Begin w file start page begun
   pub done : List ℕ
-  pub through : w.through file start done here
+  pub through : Leads w file start done here
   pub bytes : Appends before after (w.opening file ++ done)
 
-module _ {S : Type 0} {w : Walk S} {most : ℕ} (laws : Laws w most) {file : List ℕ} {before after : Option (List ℕ)} {s : S} where
-  pub opening_written : w.begins file s → Appends before after (w.opening file) → Written w file before after s
-  opening_written b bytes = record { start = s; begins = b; done = []; through = laws.none; bytes = subst (Appends before after) (sym (append-nil (w.opening file))) bytes }
+module _ {C : Type 0} {w : Walk C} {file : List ℕ} {before after : Option (List ℕ)} {c : C} where
+  pub opening_written : {page begun : Page} → Begin w file c page begun → Appends before after (w.opening file) → Written w file before after c
+  opening_written {page} {begun} b bytes =
+      record { start = c; page = page; begun = begun; begin = b; done = []; through = none; bytes = subst (Appends before after) (sym (append-nil (w.opening file))) bytes }
 
-  pub more_written : {t : S} {piece : List ℕ} {later : Option (List ℕ)} → Written w file before after s → w.through file s piece t → Appends after later piece
-      → Written w file before later t
-  more_written {piece = piece} {later = later} d through bytes =
+  pub more_written : {d : C} {piece : List ℕ} {later : Option (List ℕ)} → Written w file before after c → Leads w file c piece d → Appends after later piece
+      → Written w file before later d
+  more_written {piece = piece} {later = later} x through bytes =
       record {
-        start = d.start;
-        begins = d.begins;
-        done = d.done ++ piece;
-        through = laws.then d.through through;
-        bytes = subst (Appends before later) (append_assoc (w.opening file) d.done piece) (Appends-trans _ _ _ _ _ d.bytes bytes);
+        start = x.start;
+        page = x.page;
+        begun = x.begun;
+        begin = x.begin;
+        done = x.done ++ piece;
+        through = through_then x.through through;
+        bytes = subst (Appends before later) (append_assoc (w.opening file) x.done piece) (Appends-trans _ _ _ _ _ x.bytes bytes);
       }
 
-  pub all_written : Written w file before after s → length file < w.at s → Appends before after (w.text file)
-  all_written d past = subst (Appends before after) (sym (laws.whole d.begins d.through past)) d.bytes
+  pub all_written : Written w file before after c → length file < place w c → Appends before after (w.text file)
+  all_written x past = subst (Appends before after) (sym (x.begin.whole x.through past)) x.bytes

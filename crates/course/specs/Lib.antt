@@ -1,2 +1,2 @@
+pub mod Through
 pub mod Walk
-pub mod Laws

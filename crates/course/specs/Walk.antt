@@ -1,56 +1,79 @@
--- A walk through the lines of a file, which puts what they print into a lent buffer, at any type of places in a file.
-use Rattle.std.specs.Prelude.{ℕ, ◌+◌, ◌-◌, ◌<◌, ◌≤◌, List, length}
-use Rattle.report.specs.Put.{Put}
+-- What a program prints of a file, a lent buffer at a time.
+use Rattle.std.specs.Prelude.{ℕ, ◌+◌, ◌-◌, ◌<◌, ◌≤◌, ◌≡◌, List, ◌++◌, length}
+use Rattle.sheet.specs.Grammar.{next_at}
+use Rattle.sheet.specs.declared.Request.TheVariants.{Scan as S}
+use Rattle.sheet.specs.declared.Next.TheVariants.{Taken}
+use Rattle.report.specs.Puts.{Puts}
+use Rattle.report.specs.declared.page.Page.{Page}
+use Rattle.course.specs.Through.{Lines, Through}
 
--- What a program prints of files, and where it stands in one
-pub record Walk (S : Type 0) : Type 1 where
-  -- all that is printed of a file, what of it comes before its lines, and the whole print of any file that is too long
+-- A value of type C stands between two lines.
+pub record Walk (C : Type 0) : Type 1 where
+  pub Place : Type 0
+  pub lines : Lines Place
+  pub place_of : C → Place
+  -- the beginning of a file
+  pub begins : List ℕ → C → Type 0
+  -- all that is printed of a file, what of it comes before its lines, and the whole print of any file over 65,536 bytes
   pub text : List ℕ → List ℕ
   pub opening : List ℕ → List ℕ
   pub refused : List ℕ
-  -- A place past the file's end says that all is printed.
-  pub at : S → ℕ
-  pub begins : List ℕ → S → Type 0
-  -- Lines taken one after another, or the end of the file: from one place they lead to another, and print this.
-  pub through : List ℕ → S → List ℕ → S → Type 0
-  -- The line here is no scan that is accepted.
-  pub no_scan : List ℕ → S → Type 0
+  -- the most that a line prints, or the end
+  pub most_put : ℕ
 
--- The buffer has room for the most that one line prints, from a place on.
-abbrev pub Room : ℕ → List ℕ → ℕ → Type 0
-Room most out to = most ≤ length out - to
+-- What holds of each
+pub record Laws {C : Type 0} (w : Walk C) : Type 0 where
+  pub long : (file : List ℕ) → 65536 < length file → w.text file ≡ w.refused
+  pub short : (file : List ℕ) → length (w.opening file) ≤ w.most_put
+  -- The buffer that a program lends has room for it.
+  pub room : w.most_put ≤ 65536
 
-module _ {S : Type 0} (w : Walk S) where
-  -- What stands before the lines is put, from a place on, and `s` is the beginning of the file.
-  pub record Begin (file out : List ℕ) (to : ℕ) (s : S) (after : List ℕ) (next : ℕ) : Type 0 where
-    pub put : Put out to (w.opening file) after next
-    pub begins : w.begins file s
+module _ {C : Type 0} (w : Walk C) where
+  abbrev pub place : C → ℕ
+  place c = w.lines.at (w.place_of c)
 
-  module _ (most : ℕ) (file : List ℕ) (s : S) (out : List ℕ) where
-    -- A step by a line or the end of the file: what it prints is put, from a place on, and is no more than one line may print.
-    pub record Advance (to : ℕ) (t : S) (after : List ℕ) (next : ℕ) : Type 0 where
+  abbrev pub Leads : List ℕ → C → List ℕ → C → Type 0
+  Leads file c piece d = Through w.lines file (w.place_of c) piece (w.place_of d)
+
+  -- The line here is no S line that is accepted.
+  abbrev pub NoScan : List ℕ → C → Type 0
+  NoScan file c = (period next : ℕ) → next_at file (place c) ≡ Taken (S period) next → w.lines.refusal (w.place_of c) (S period) ≡ 0 → ⊥
+
+  -- There is room for what a line may print.
+  abbrev pub Room : Page → Type 0
+  Room page = w.most_put ≤ length page.bytes.now - page.used
+
+  -- What stands before the lines is put; lines from `c` up to the end print all the rest.
+  pub record Begin (file : List ℕ) (c : C) (page after : Page) : Type 0 where
+    pub put : Puts page (w.opening file) after
+    pub begins : w.begins file c
+    pub whole : {piece : List ℕ} {d : C} → Leads file c piece d → length file < place d → w.text file ≡ w.opening file ++ piece
+
+  module _ (file : List ℕ) (c : C) (page : Page) (d : C) (after : Page) where
+    -- A step by a line or the end of the file: what it prints is put, and is no more than that may print.
+    pub record Advance : Type 0 where
       pub piece : List ℕ
-      pub through : w.through file s piece t
-      pub put : Put out to piece after next
-      pub short : length piece ≤ most
-      pub further : w.at s < w.at t
+      pub through : Leads file c piece d
+      pub put : Puts page piece after
+      pub short : length piece ≤ w.most_put
+      pub further : place c < place d
 
-    -- A run of accepted I and S lines: what they print is put, from a place on, and found room. It went on as long as there were such lines and
-    -- room for what one more may print.
-    pub record Scans (to : ℕ) (t : S) (after : List ℕ) (next : ℕ) : Type 0 where
+    -- A run of accepted I and S lines: what they print is put, and found room. It went on as long as there were such lines and room.
+    pub record Scans : Type 0 where
       pub piece : List ℕ
-      pub through : w.through file s piece t
-      pub put : Put out to piece after next
-      pub fits : to ≤ length out → to + length piece ≤ length out
-      pub onward : w.at s ≤ w.at t
-      pub within : w.at s ≤ length file → w.at t ≤ length file
-      pub moved : to < next → w.at s < w.at t
-      pub over : Room most out next → w.no_scan file t
+      pub through : Leads file c piece d
+      pub put : Puts page piece after
+      pub fits : page.used ≤ length page.bytes.now → page.used + length piece ≤ length page.bytes.now
+      pub onward : place c ≤ place d
+      pub within : place c ≤ length file → place d ≤ length file
+      pub moved : page.used < after.used → place c < place d
+      pub over : Room after → NoScan file d
 
-    -- Lines, or the end of the file, at least one where the buffer has room for what that may print. What they print stands at its start, whole.
-    pub record Fill (t : S) (after : List ℕ) (next : ℕ) : Type 0 where
+    -- Lines, or the end of the file, at least one where a page with nothing on it has room for what that may print. What they print stands on it,
+    -- whole.
+    pub record Fill : Type 0 where
       pub piece : List ℕ
-      pub through : w.through file s piece t
-      pub put : Put out 0 piece after next
-      pub fits : length piece ≤ length out
-      pub further : most ≤ length out → w.at s ≤ length file → w.at s < w.at t
+      pub through : Leads file c piece d
+      pub put : Puts page piece after
+      pub fits : page.used ≤ length page.bytes.now → page.used + length piece ≤ length page.bytes.now
+      pub further : Room page → place c ≤ length file → place c < place d

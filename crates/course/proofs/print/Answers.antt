@@ -1,21 +1,19 @@
-use Rattle.std.proofs.Common.{subst, arith}
+use Rattle.std.proofs.Common.{◌∙◌, ap, subst, arith}
+use Rattle.std.specs.Prelude.{length}
 use Rattle.std.specs.Io.KnownBytes.{Appends}
 use Rattle.course.proofs.Pieces.{begin_exact, fill_exact}
-use Rattle.course.proofs.Written.{opening_written, more_written, all_written}
+use Rattle.course.proofs.Written.{opening_written, more_written}
 use Rattle.course.proofs.print.Goals as goal
 
-pub loop-out-init : goal.loop-out-init
-loop-out-init g c =
+pub loop-bytes-init : goal.loop-bytes-init
+loop-bytes-init g c =
     let laws = g.met.C.Course.laws in
-    let begun = c.begin-s.ensures in
-    let bytes = subst (Appends (g.W.Write.contents c.args.to.now) (g.W.Write.contents c.write_all.new.self)) (begin_exact laws begun (omega (arith, laws.room))) c.in_ok-write_all.ensures.bytes in
-    (omega arith, opening_written laws begun.begins bytes)
+    let begun = c.begin-here.ensures in
+    let exact = begin_exact laws begun c.new-page.ensures.used (omega (arith, laws.room, ap length c.new-page.ensures.bytes)) in
+    opening_written begun (subst (Appends (g.W.Write.contents c.args.to.now) (g.W.Write.contents c.write_all.new.self)) (c.filled.ensures ∙ exact) c.in_ok-write_all.ensures.bytes)
 
-pub loop-out-preserved : goal.loop-out-preserved
-loop-out-preserved g c =
-    let f = c.fill-filled.ensures in
-    let bytes = subst (Appends (g.W.Write.contents c.loop-out.to) (g.W.Write.contents c.write_all-in-loop-out.new.self)) (fill_exact f) c.in_ok-write_all-2.ensures.bytes in
-    (omega arith, more_written g.met.C.Course.laws c.loop-out.invariant.1 f.through bytes)
-
-pub returns : goal.returns
-returns g c = all_written g.met.C.Course.laws c.loop-out.invariant.1 (omega (arith, c.loop-out-test.false))
+pub loop-bytes-preserved : goal.loop-bytes-preserved
+loop-bytes-preserved g c =
+    let exact = fill_exact c.fill.ensures c.new-page-in-loop-bytes.ensures.used in
+    more_written c.loop-bytes.invariant c.fill.ensures.through
+    (subst (Appends (g.W.Write.contents c.loop-bytes.to) (g.W.Write.contents c.write_all-in-loop-bytes.new.self)) (c.filled-in-loop-bytes.ensures ∙ exact) c.in_ok-write_all-2.ensures.bytes)
