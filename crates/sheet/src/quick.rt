@@ -6,20 +6,12 @@ ghost use Rattle.sheet.specs.WordField.{word_of};
 ghost use Rattle.sheet.specs.Grammar.{letter_i, letter_s, next_at};
 ghost use Rattle.sheet.specs.Places.{is_at, is_digit_at, begins_with, ends_line, Read, NumberRead};
 
+use crate::Request;
 use crate::fields::COMMA;
 use crate::lines::{LF, LONGEST, part};
 use crate::numbers::{LARGEST, wide};
 use crate::requests::{INPUT, SCAN, request_at};
 use crate::word_fields::{has_0x, hex_run};
-use crate::{Next, Request};
-
-// What is read at a place where a number or a word may stand.
-#[derive(Clone, Copy)]
-pub enum Figure {
-    // Its value, and the place after its last digit.
-    Said(u32, usize),
-    Nothing,
-}
 
 // Whether a place of a file has this byte.
 pub fn is_at(file: &[u8], at: usize, b: u8) -> bool
@@ -44,35 +36,35 @@ fn is_digit_at(file: &[u8], at: usize) -> bool
 
 // The number at a place of a file. A 0 is read alone, so that no leading zero is taken: a digit after it stands where the
 // caller looks for the end of the field.
-fn number_at(file: &[u8], at: usize) -> Figure
+fn number_at(file: &[u8], at: usize) -> Option<(u32, usize)>
     ensures { Read number_of file.now at result }
 {
     if is_at(file, at, b'0') {
-        return Figure::Said(0, at + 1);
+        return Some((0, at + 1));
     }
     let mut value: u64 = 0;
     let mut i = at;
     while is_digit_at(file, i) {
         value = value * 10 + (wide(file[i]) - 48);
         if LARGEST < value {
-            return Figure::Nothing;
+            return None;
         }
         i += 1;
     }
     if value == 0 {
-        return Figure::Nothing;
+        return None;
     }
-    Figure::Said(value as u32, i)
+    Some((value as u32, i))
 }
 
 // The word at a place of a file, in hexadecimal.
-fn hex_word_at(file: &[u8], at: usize) -> Figure
+fn hex_word_at(file: &[u8], at: usize) -> Option<(u32, usize)>
     ensures { Read word_of file.now at result }
 {
     if has_0x(part(file, at, file.len())) {
         return hex_run(file, at + 2);
     }
-    Figure::Nothing
+    None
 }
 
 // Whether a field of this letter alone stands at a place of a file, and a comma after it.
@@ -94,61 +86,61 @@ fn ends_line(file: &[u8], at: usize, end: usize) -> bool
 }
 
 // The request of a line that begins with an S.
-fn scan_at(file: &[u8], at: usize) -> Next
+fn scan_at(file: &[u8], at: usize) -> Option<(Request, usize)>
     requires { begins_with file.now at letter_s ≡ true }
     ensures { result ≡ next_at file.now at }
 {
-    let Figure::Said(period, end) = number_at(file, at + 2) else {
+    let Some((period, end)) = number_at(file, at + 2) else {
         return request_at(file, at);
     };
     if ends_line(file, at, end) {
-        return Next::Taken(Request::Scan { period }, end + 1);
+        return Some((Request::Scan { period }, end + 1));
     }
     request_at(file, at)
 }
 
 // The request of an I line whose number is read; its word may be hexadecimal.
-fn hex_input_at(file: &[u8], at: usize, number: u32, parting: usize) -> Next
+fn hex_input_at(file: &[u8], at: usize, number: u32, parting: usize) -> Option<(Request, usize)>
     requires { NumberRead file.now at number parting }
     ensures { result ≡ next_at file.now at }
 {
-    let Figure::Said(value, end) = hex_word_at(file, parting + 1) else {
+    let Some((value, end)) = hex_word_at(file, parting + 1) else {
         return request_at(file, at);
     };
     if ends_line(file, at, end) {
-        return Next::Taken(
+        return Some((
             Request::Input {
                 number,
                 word: value,
             },
             end + 1,
-        );
+        ));
     }
     request_at(file, at)
 }
 
 // The request of a line that begins with an I. Its word is taken for decimal first, as most are.
-fn input_at(file: &[u8], at: usize) -> Next
+fn input_at(file: &[u8], at: usize) -> Option<(Request, usize)>
     requires { begins_with file.now at letter_i ≡ true }
     ensures { result ≡ next_at file.now at }
 {
-    let Figure::Said(number, parting) = number_at(file, at + 2) else {
+    let Some((number, parting)) = number_at(file, at + 2) else {
         return request_at(file, at);
     };
     if !is_at(file, parting, COMMA) {
         return request_at(file, at);
     }
-    let Figure::Said(word, end) = number_at(file, parting + 1) else {
+    let Some((word, end)) = number_at(file, parting + 1) else {
         return request_at(file, at);
     };
     if ends_line(file, at, end) {
-        return Next::Taken(Request::Input { number, word }, end + 1);
+        return Some((Request::Input { number, word }, end + 1));
     }
     hex_input_at(file, at, number, parting)
 }
 
 // The request of the line at a place of a file, and the place after that line, as `request_at` gives them.
-pub fn next_request(file: &[u8], at: usize) -> Next
+pub fn next_request(file: &[u8], at: usize) -> Option<(Request, usize)>
     ensures { result ≡ next_at file.now at }
 {
     if begins_with(file, at, INPUT) {

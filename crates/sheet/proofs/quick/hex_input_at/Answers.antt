@@ -12,7 +12,7 @@ pub ends_line-requires : goal.ends_line-requires
 unfolding Read
 ends_line-requires c =
     let p = c.requires in
-    omega (arith, (parted (number_said p.number_said)).further, (parted c.in-Said.ensures).further)
+    omega (arith, (parted (number_said p.number_said)).further, (parted c.in-Some.ensures).further)
 
 pub overflow_add-result : goal.overflow_add-result
 overflow_add-result c = omega (arith, ended_inside _ _ _ (sym c.ends_line.ensures ∙ c.if-ends_line.true))
@@ -21,4 +21,4 @@ pub returns-then-ends_line : goal.returns-then-ends_line
 unfolding Read
 returns-then-ends_line c =
     let p = c.requires in
-    sym (input_next c.args.file.now c.args.at p.begins p.number_said p.parted c.in-Said.ensures (sym c.ends_line.ensures ∙ c.if-ends_line.true))
+    sym (input_next c.args.file.now c.args.at p.begins p.number_said p.parted c.in-Some.ensures (sym c.ends_line.ensures ∙ c.if-ends_line.true))

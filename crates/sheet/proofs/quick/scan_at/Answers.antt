@@ -11,7 +11,7 @@ overflow_add-at c =
 
 pub ends_line-requires : goal.ends_line-requires
 unfolding Read
-ends_line-requires c = omega (arith, (parted (number_said c.in-Said.ensures)).further)
+ends_line-requires c = omega (arith, (parted (number_said c.in-Some.ensures)).further)
 
 pub overflow_add-result : goal.overflow_add-result
 overflow_add-result c = omega (arith, ended_inside _ _ _ (sym c.ends_line.ensures ∙ c.if-ends_line.true))
@@ -19,4 +19,4 @@ overflow_add-result c = omega (arith, ended_inside _ _ _ (sym c.ends_line.ensure
 pub returns-then-ends_line : goal.returns-then-ends_line
 unfolding Read
 returns-then-ends_line c =
-    sym (scan_next c.args.file.now c.args.at c.requires c.in-Said.ensures (sym c.ends_line.ensures ∙ c.if-ends_line.true))
+    sym (scan_next c.args.file.now c.args.at c.requires c.in-Some.ensures (sym c.ends_line.ensures ∙ c.if-ends_line.true))
