@@ -16,8 +16,8 @@ use Rattle.sheet.specs.Lines.{longest, line, well_sized, text_of, first_line, li
 use Rattle.sheet.specs.Number.{largest, is_digit, all_digits, value_from, digits_number, leading_zero, number_of}
 use Rattle.sheet.specs.WordField.{word_of}
 use Rattle.sheet.specs.Grammar.{letter_m, letter_i, letter_s, letter_of, is_kind, number_in, word_in, with_value, motor_from, input_from, scan_from, motor_of, input_of, scan_of, request_of, taken_at, next_at}
-use Rattle.sheet.specs.Places.{is_at, is_digit_at, begins_with, ends_line, SaidAt}
-use Rattle.std.specs.Prelude.{Some}
+use Rattle.sheet.specs.Places.{is_at, is_digit_at, begins_with, ends_line, SaidAt, Read}
+use Rattle.std.specs.Prelude.{Option, Some, None}
 use Rattle.sheet.specs.declared.Line.TheVariants.{Until}
 use Rattle.sheet.specs.declared.Request.TheVariants.{Motor, Input, Scan}
 use Rattle.sheet.proofs.SplitLaws.{Free, free_none, free_more, split_joined, free_joined}
@@ -132,6 +132,11 @@ module _ (file : List ℕ) (at : ℕ) where
 -- a number at a place is a word there
 pub number_said : {file : List ℕ} {at value end : ℕ} → SaidAt number_of file at value end → SaidAt word_of file at value end
 number_said p = record { within = p.within; says = number_word _ _ p.says }
+
+pub number_read : (file : List ℕ) (at : ℕ) (r : Option (ℕ × ℕ)) → Read number_of file at r → Read word_of file at r
+unfolding Read
+number_read file at None p = tt
+number_read file at (Some r) p = number_said p
 
 -- the field that says it, and what follows
 pub record Parted (file : List ℕ) (at end : ℕ) : Type 0 where
