@@ -17,7 +17,7 @@ use Rattle.totals.specs.declared.Totals.{Totals}
 use Rattle.totals.specs.Running.{all_totals}
 use Rattle.sheet.specs.declared.Request.{Request}
 use Rattle.sheet.specs.declared.Request.TheVariants.{Motor as M, Input as I, Scan as S, Refused}
-use Rattle.sheet.specs.declared.Next.TheVariants.{Taken, Done}
+use Rattle.std.specs.Prelude.{Some, None}
 use Rattle.sheet.specs.Grammar.{next_at}
 use Rattle.sheet.proofs.RequestLaws.{taken as Taken-step}
 use Rattle.report.specs.Put.{Put}
@@ -56,7 +56,7 @@ module _ {file : List ℕ} {b : Bench} {to : ℕ} {out : List ℕ} where
 
 module _ {file : List ℕ} {s : Sitting} {to : ℕ} {out : List ℕ} where
   -- no line is left
-  pub at_end_lem : {after : List ℕ} {n : ℕ} → s.at ≤ length file → next_at file s.at ≡ Done → length s.bench.motors ≡ 32
+  pub at_end_lem : {after : List ℕ} {n : ℕ} → s.at ≤ length file → next_at file s.at ≡ None → length s.bench.motors ≡ 32
       → Put out to (at_end (view_of s.bench)) after n → Advance file s out to after (standing s.bench (length file + 1) s.line n)
   unfolding most_motors
   at_end_lem l f is p =
@@ -68,7 +68,7 @@ module _ {file : List ℕ} {s : Sitting} {to : ℕ} {out : List ℕ} where
         further = omega arith;
       }
 
-  module _ {r : Request} {next : ℕ} (found : next_at file s.at ≡ Taken r next) (a : Acted) (code : a.refusal ≡ refusal_for (view_of s.bench) r) where
+  module _ {r : Request} {next : ℕ} (found : next_at file s.at ≡ Some (r, next)) (a : Acted) (code : a.refusal ≡ refusal_for (view_of s.bench) r) where
     -- a request that is refused
     pub stops : {after : List ℕ} {n : ℕ} → (a.refusal ≡ 0 → ⊥) → Put out to (refusal_of s.line a.refusal) after n
         → Advance file s out to after (standing s.bench (length file + 1) s.line n)
@@ -101,7 +101,7 @@ module _ {file : List ℕ} {s : Sitting} {to : ℕ} {out : List ℕ} where
     unfolding answer_of
     goes_on_quietly no-scan e is h = goes_on e is h (rw (no_rows_of r found (sym code ∙ h)) put_none)
       where
-        no_rows_of : (q : Request) → next_at file s.at ≡ Taken q next → refusal_for (view_of s.bench) q ≡ 0 → answer_of (view_of a.bench) q ≡ []
+        no_rows_of : (q : Request) → next_at file s.at ≡ Some (q, next) → refusal_for (view_of s.bench) q ≡ 0 → answer_of (view_of a.bench) q ≡ []
         no_rows_of (M number ops1 ops2 w u) at e = refl
         no_rows_of (I number word) at e = refl
         no_rows_of (S period) at e = absurd (no-scan period next at e)
@@ -193,7 +193,7 @@ module _ {file : List ℕ} {s : Sitting} {out : List ℕ} {to last : ℕ} where
     -- a run of I lines and an S line more: `records` are the motors after its scan, and `totals` their totals
     pub scans_more : (i : Inputs) {period next m : ℕ} {records : List Motor} {totals : List Totals} {later : List ℕ} → length here.bench.motors ≡ 32
         → length here.bench.totals ≡ 32 → length here.bench.words ≡ 32
-        → InputRun file (min here.bench.count most_motors) here.bench.words here.at here.line i → next_at file i.at ≡ Taken (S period) next
+        → InputRun file (min here.bench.count most_motors) here.bench.words here.at here.line i → next_at file i.at ≡ Some (S period, next)
         → part_refusal here.bench.motors (min here.bench.count most_motors) i.words period ≡ 0
         → records ≡ part_after here.bench.motors (min here.bench.count most_motors) i.words period
         → totals ≡ all_totals here.bench.totals here.bench.motors (take (min here.bench.count most_motors) i.words) period → n ≤ last → last + most_put ≤ length out

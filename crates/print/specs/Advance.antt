@@ -1,5 +1,5 @@
 -- What a call that takes the next lines of a file does: it puts what they print into the lent buffer.
-use Rattle.std.specs.Prelude.{ℕ, ◌+◌, ◌<◌, ◌≤◌, ◌≡◌, List, [], ◌∷◌, ◌++◌, length}
+use Rattle.std.specs.Prelude.{ℕ, ◌+◌, ◌<◌, ◌≤◌, ◌≡◌, List, [], ◌∷◌, ◌++◌, length, Some, None}
 use Rattle.words.specs.Word.{when◌then◌else◌}
 use Rattle.rules.specs.declared.Motor.{Motor}
 use Rattle.totals.specs.declared.Totals.{Totals}
@@ -7,7 +7,6 @@ use Rattle.totals.specs.Totals.{under_way_in}
 use Rattle.sheet.specs.Grammar.{next_at}
 use Rattle.sheet.specs.declared.Request.{Request}
 use Rattle.sheet.specs.declared.Request.TheVariants.{Scan as S}
-use Rattle.sheet.specs.declared.Next.TheVariants.{Taken, Done}
 use Rattle.report.specs.Put.{Put}
 use Rattle.report.specs.Print.{totals_row_of, refusal_of}
 use Rattle.interpreter.specs.State.{State, empty_state, next_number, refusal_for, changed, view_of, too_long}
@@ -41,12 +40,12 @@ at_end t = running_print 1 t.motors t.totals
 -- the state as it was; so does the end of the file.
 pub data Through (file : List ℕ) (from : Place) : List ℕ → Place → Type 0 where
   none : Through file from [] from
-  accepted : {piece : List ℕ} {p : Place} {r : Request} {next : ℕ} → Through file from piece p → next_at file p.at ≡ Taken r next
+  accepted : {piece : List ℕ} {p : Place} {r : Request} {next : ℕ} → Through file from piece p → next_at file p.at ≡ Some (r, next)
       → refusal_for p.state r ≡ 0
       → Through file from (piece ++ answer_of (changed p.state r) r) (record { at = next; state = changed p.state r; line = next_number p.line })
-  refused : {piece : List ℕ} {p : Place} {r : Request} {next : ℕ} → Through file from piece p → next_at file p.at ≡ Taken r next
+  refused : {piece : List ℕ} {p : Place} {r : Request} {next : ℕ} → Through file from piece p → next_at file p.at ≡ Some (r, next)
       → (refusal_for p.state r ≡ 0 → ⊥) → Through file from (piece ++ refusal_of p.line (refusal_for p.state r)) (over file p)
-  ended : {piece : List ℕ} {p : Place} → Through file from piece p → p.at ≤ length file → next_at file p.at ≡ Done
+  ended : {piece : List ℕ} {p : Place} → Through file from piece p → p.at ≤ length file → next_at file p.at ≡ None
       → Through file from (piece ++ at_end p.state) (over file p)
 
 -- Most that one line prints, or the end: for each of 32 motors a row of 90 bytes, or of 101
@@ -55,12 +54,12 @@ most_put = 3232
 
 -- The line at a sitting's place is no S line that is accepted.
 abbrev pub NoScan : List ℕ → Sitting → Type 0
-NoScan file s = (period next : ℕ) → next_at file s.at ≡ Taken (S period) next → refusal_for (view_of s.bench) (S period) ≡ 0 → ⊥
+NoScan file s = (period next : ℕ) → next_at file s.at ≡ Some (S period, next) → refusal_for (view_of s.bench) (S period) ≡ 0 → ⊥
 
 -- It is an S line, and is refused.
 pub record RefusedScan (file : List ℕ) (s : Sitting) (period : ℕ) : Type 0 where
   pub next : ℕ
-  pub here : next_at file s.at ≡ Taken (S period) next
+  pub here : next_at file s.at ≡ Some (S period, next)
   pub refused : refusal_for (view_of s.bench) (S period) ≡ 0 → ⊥
 
 -- A step to a further place, by a line or the end of the file: what it prints is put, and is no more than that may print.

@@ -1,7 +1,6 @@
 // A file taken line by line.
-ghost use Rattle.std.specs.Prelude.{◌≡◌, ◌≤◌, length};
+ghost use Rattle.std.specs.Prelude.{◌≡◌, ◌≤◌, length, Some};
 ghost use Rattle.sheet.specs.Grammar.{next_at};
-ghost use Rattle.sheet.specs.declared.Next.TheVariants.{Taken};
 ghost use Rattle.report.specs.Put.{Put};
 ghost use Rattle.totals.specs.Totals.{under_way_in};
 ghost use Rattle.interpreter.specs.State.{view_of};
@@ -13,7 +12,7 @@ use crate::{Advanced, Sitting};
 use interpreter::{Bench, act, empty, in_use, is_too_long, next_number, scan_refusal};
 use report::{TotalsRow, put_refusal, put_totals};
 use rules::Motor;
-use sheet::{Next, Request, next_request};
+use sheet::{Request, next_request};
 use totals::Totals;
 use words::choose;
 
@@ -53,7 +52,7 @@ fn take_request(
     out: &mut [u8],
     to: usize,
 ) -> Advanced
-    requires { (next_at file.now s.at ≡ Taken request next) × NoScan file.now s }
+    requires { (next_at file.now s.at ≡ Some (request, next)) × NoScan file.now s }
     ensures { Advance file.now s out.old to out.new result }
 {
     let bench = s.bench;
@@ -108,11 +107,11 @@ fn take_line(file: &[u8], s: Sitting, out: &mut [u8], to: usize) -> Advanced
     ensures { Advance file.now s out.old to out.new result }
 {
     match next_request(file, s.at) {
-        Next::Taken(request, next) => match request {
+        Some((request, next)) => match request {
             Request::Scan { period } => refuse_scan(file, s, period, out, to),
             _ => take_request(file, s, request, next, out, to),
         },
-        Next::Done => {
+        None => {
             let bench = s.bench;
             let n = put_end(bench, out, to);
             stand(bench, file.len() + 1, s.line, n)
