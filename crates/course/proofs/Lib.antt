@@ -1,4 +1,4 @@
 pub mod ThroughLaws
-pub mod Filling
+pub mod Runs
 pub mod Pieces
 pub mod Written

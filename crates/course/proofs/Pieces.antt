@@ -15,7 +15,7 @@ module _ {C : Type 0} (w : Walk C) (file : List ℕ) where
   pub data Calls : C → List (List ℕ) → Type 0 where
     ended : {c : C} → length file < place w c → Calls c []
     one_page : {c d : C} {page after : Page} {ps : List (List ℕ)} → place w c ≤ length file → page.used ≡ 0 → w.most_put ≤ length page.bytes.now
-        → (f : Fill w file c page d after) → Calls d ps → Calls c (f.piece ∷ ps)
+        → (f : Fill w file c page d after) → Calls d ps → Calls c (f.run.piece ∷ ps)
 
 unfoldable pub together : List (List ℕ) → List ℕ
 together [] = []
@@ -29,7 +29,7 @@ module _ {C : Type 0} {w : Walk C} {file : List ℕ} where
   all_through : {c : C} {ps : List (List ℕ)} → Calls w file c ps → (d : C) × Leads w file c (together ps) d × (length file < place w d)
   unfolding together
   all_through {c} (ended h) = (c, none, h)
-  all_through (one_page h e m f calls) = let (d, through, past) = all_through calls in (d, through_then f.through through, past)
+  all_through (one_page h e m f calls) = let (d, through, past) = all_through calls in (d, through_then f.run.through through, past)
 
   -- the whole print
   pub calls_text : {c : C} {page after : Page} {ps : List (List ℕ)} → Begin w file c page after → Calls w file c ps → w.text file ≡ w.opening file ++ together ps
@@ -40,8 +40,8 @@ module _ {C : Type 0} {w : Walk C} {file : List ℕ} where
   calls_end (ended h) = omega arith
   calls_end (one_page h e m f calls) = omega (arith, f.further (omega (arith, m, e)) h, calls_end calls)
 
-  pub fill_exact : {c d : C} {page after : Page} (f : Fill w file c page d after) → page.used ≡ 0 → take after.used after.bytes.now ≡ f.piece
-  fill_exact f e = on_page e (omega (arith, e, f.fits (omega (arith, e)))) f.put
+  pub fill_exact : {c d : C} {page after : Page} (f : Fill w file c page d after) → page.used ≡ 0 → take after.used after.bytes.now ≡ f.run.piece
+  fill_exact f e = on_page e (omega (arith, e, f.run.fits (omega (arith, e)))) f.run.put
 
   pub begin_exact : {c : C} {page after : Page} → Laws w → Begin w file c page after → page.used ≡ 0 → w.most_put ≤ length page.bytes.now → take after.used after.bytes.now ≡ w.opening file
   begin_exact laws b e room = on_page e (omega (arith, laws.short file)) b.put

@@ -50,7 +50,7 @@ module _ {C : Type 0} (w : Walk C) where
     pub whole : {piece : List ℕ} {d : C} → Leads file c piece d → length file < place d → w.text file ≡ w.opening file ++ piece
 
   module _ (file : List ℕ) (c : C) (page : Page) (d : C) (after : Page) where
-    -- A step by a line or the end of the file: what it prints is put, and is no more than that may print.
+    -- One line, or the end of the file: what it prints is put, and is no more than that may print.
     pub record Advance : Type 0 where
       pub piece : List ℕ
       pub through : Leads file c piece d
@@ -58,22 +58,22 @@ module _ {C : Type 0} (w : Walk C) where
       pub short : length piece ≤ w.most_put
       pub further : place c < place d
 
-    -- A run of accepted I and S lines: what they print is put, and found room. It went on as long as there were such lines and room.
-    pub record Scans : Type 0 where
+    -- Lines, and maybe the end: what they print is put, and found room.
+    pub record Run : Type 0 where
       pub piece : List ℕ
       pub through : Leads file c piece d
       pub put : Puts page piece after
       pub fits : page.used ≤ length page.bytes.now → page.used + length piece ≤ length page.bytes.now
       pub onward : place c ≤ place d
-      pub within : place c ≤ length file → place d ≤ length file
       pub moved : page.used < after.used → place c < place d
+
+    -- Accepted I and S lines alone, as long as there were such lines, and room
+    pub record Scans : Type 0 where
+      pub run : Run
+      pub within : place c ≤ length file → place d ≤ length file
       pub over : Room after → NoScan file d
 
-    -- Lines, or the end of the file, at least one where a page with nothing on it has room for what that may print. What they print stands on it,
-    -- whole.
+    -- At least one line, or the end, where there was room
     pub record Fill : Type 0 where
-      pub piece : List ℕ
-      pub through : Leads file c piece d
-      pub put : Puts page piece after
-      pub fits : page.used ≤ length page.bytes.now → page.used + length piece ≤ length page.bytes.now
+      pub run : Run
       pub further : Room page → place c ≤ length file → place c < place d

@@ -15,5 +15,5 @@ loop-bytes-init g c =
 pub loop-bytes-preserved : goal.loop-bytes-preserved
 loop-bytes-preserved g c =
     let exact = fill_exact c.fill.ensures c.new-page-in-loop-bytes.ensures.used in
-    more_written c.loop-bytes.invariant c.fill.ensures.through
+    more_written c.loop-bytes.invariant c.fill.ensures.run.through
     (subst (Appends (g.W.Write.contents c.loop-bytes.to) (g.W.Write.contents c.write_all-in-loop-bytes.new.self)) (c.filled-in-loop-bytes.ensures ∙ exact) c.in_ok-write_all-2.ensures.bytes)
