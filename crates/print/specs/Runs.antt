@@ -1,6 +1,7 @@
 -- Runs of accepted I lines, which change nothing but the words.
+use Rattle.std.specs.List.{list_all}
 use Rattle.std.specs.Prelude.{ℕ, ◌≤◌, min, ◌≡◌, true, List, [], length, take}
-use Rattle.rules.specs.Refusals.{most_motors, all_ok, word_ok}
+use Rattle.rules.specs.Refusals.{most_motors, word_ok}
 use Rattle.interpreter.specs.State.{State, with_words}
 use Rattle.interpreter.specs.declared.lines.Inputs.{Inputs}
 use Rattle.course.specs.Through.{Through}
@@ -12,6 +13,6 @@ pub record Run (file : List ℕ) (held : ℕ) (words : List ℕ) (at line : ℕ)
       → Through print_lines file (record { at = at; state = with_words t (take count words); line = line }) []
       (record { at = r.at; state = with_words t (take count r.words); line = r.line })
   pub size : length r.words ≡ length words
-  pub right : all_ok word_ok (take held words) ≡ true → all_ok word_ok (take held r.words) ≡ true
+  pub right : list_all word_ok (take held words) ≡ true → list_all word_ok (take held r.words) ≡ true
   pub onward : at ≤ r.at
   pub within : at ≤ length file → r.at ≤ length file

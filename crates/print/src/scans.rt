@@ -77,8 +77,7 @@ impl Sitting {
                     motors[i] = rested;
                 } else {
                     let r = read(settings, word);
-                    let scanned = motor::scan(motors[i], word, period);
-                    let stepped = scanned.motor;
+                    let stepped = motor::scan(motors[i], word, period).unwrap_or(motors[i]);
                     let w = stepped.status;
                     totals[i] = totals::after(totals[i], motors[i], w, r, period);
                     motors[i] = stepped;
