@@ -1,8 +1,7 @@
 -- What a program prints of a file, a lent buffer at a time.
-use Rattle.std.specs.Prelude.{ℕ, ◌+◌, ◌-◌, ◌<◌, ◌≤◌, ◌≡◌, List, ◌++◌, length}
+use Rattle.std.specs.Prelude.{ℕ, ◌+◌, ◌-◌, ◌<◌, ◌≤◌, ◌≡◌, List, ◌++◌, length, Some}
 use Rattle.sheet.specs.Grammar.{next_at}
 use Rattle.sheet.specs.declared.Request.TheVariants.{Scan as S}
-use Rattle.sheet.specs.declared.Next.TheVariants.{Taken}
 use Rattle.report.specs.Puts.{Puts}
 use Rattle.report.specs.declared.page.Page.{Page}
 use Rattle.course.specs.Through.{Lines, Through}
@@ -37,7 +36,7 @@ module _ {C : Type 0} (w : Walk C) where
 
   -- The line here is no S line that is accepted.
   abbrev pub NoScan : List ℕ → C → Type 0
-  NoScan file c = (period next : ℕ) → next_at file (place c) ≡ Taken (S period) next → w.lines.refusal (w.place_of c) (S period) ≡ 0 → ⊥
+  NoScan file c = (period next : ℕ) → next_at file (place c) ≡ Some (S period, next) → w.lines.refusal (w.place_of c) (S period) ≡ 0 → ⊥
 
   -- There is room for what a line may print.
   abbrev pub Room : Page → Type 0

@@ -17,7 +17,7 @@ use Rattle.rules.proofs.Tables.{not_yet, one_more as table_more}
 use Rattle.totals.specs.Running.{capped}
 use Rattle.sheet.specs.declared.Request.{Request}
 use Rattle.sheet.specs.declared.Request.TheVariants.{Motor as M, Input as I, Scan as S, Refused}
-use Rattle.sheet.specs.declared.Next.TheVariants.{Taken, Done}
+use Rattle.std.specs.Prelude.{Some, None}
 use Rattle.sheet.specs.Grammar.{next_at}
 use Rattle.sheet.proofs.RequestLaws.{taken as Taken-step}
 use Rattle.report.specs.Put.{Put}
@@ -66,7 +66,7 @@ unfolding most_motors
 few b is = omega (arith, used b.count b.motors is)
 
 -- an accepted line that is no scan adds nothing, and takes no time
-quiet : (file : List ℕ) (s : Recording) (p : Moment) (r : Request) (next : ℕ) → next_at file s.at ≡ Taken r next → refusal_for (view_of s.bench) r ≡ 0 → NoScan file s
+quiet : (file : List ℕ) (s : Recording) (p : Moment) (r : Request) (next : ℕ) → next_at file s.at ≡ Some (r, next) → refusal_for (view_of s.bench) r ≡ 0 → NoScan file s
     → (added (moment_of s) p r ≡ []) × (clock_after s.time r ≡ s.time)
 unfolding added clock_after
 quiet file s p (M number ops1 ops2 w u) next at h n = (refl, refl)
@@ -77,7 +77,7 @@ quiet file s p Refused next at h n = (refl, refl)
 module _ {file : List ℕ} {s : Recording} {to : ℕ} {out : List ℕ} where
   -- the dump ends, at the end of the file or at a refused line
   module _ {after : List ℕ} {r : Recorded} (is : length s.bench.motors ≡ 32) (f : Finish file s out to after r) where
-    pub at_end_lem : s.at ≤ length file → next_at file s.at ≡ Done → Advance file s out to after r
+    pub at_end_lem : s.at ≤ length file → next_at file s.at ≡ None → Advance file s out to after r
     at_end_lem l found =
         record {
           piece = first_text s.bench.scans (moment_of s).motors;
@@ -87,7 +87,7 @@ module _ {file : List ℕ} {s : Recording} {to : ℕ} {out : List ℕ} where
           further = omega (arith, ap (λ (p : Moment). p.at) f.past);
         }
 
-    pub stops : {q : Request} {next : ℕ} → next_at file s.at ≡ Taken q next → (refusal_for (view_of s.bench) q ≡ 0 → ⊥) → Advance file s out to after r
+    pub stops : {q : Request} {next : ℕ} → next_at file s.at ≡ Some (q, next) → (refusal_for (view_of s.bench) q ≡ 0 → ⊥) → Advance file s out to after r
     stops {q} {next} found h =
         record {
           piece = first_text s.bench.scans (moment_of s).motors;
@@ -98,7 +98,7 @@ module _ {file : List ℕ} {s : Recording} {to : ℕ} {out : List ℕ} where
         }
 
   -- a line that is accepted and is no scan
-  module _ {q : Request} {next : ℕ} (found : next_at file s.at ≡ Taken q next) (a : Acted) where
+  module _ {q : Request} {next : ℕ} (found : next_at file s.at ≡ Some (q, next)) (a : Acted) where
     pub goes_on : NoScan file s → refusal_for (view_of s.bench) q ≡ 0 → view_of a.bench ≡ state_after (view_of s.bench) q
         → Advance file s out to out (standing a.bench next s.time to)
     goes_on n h e =
@@ -183,7 +183,7 @@ module _ {file : List ℕ} {s : Recording} {out : List ℕ} {to last : ℕ} wher
       scan_code = scan_refusal_lem b is js₁ period ∙ sym (same_refusal b i.at here.time (S period))
 
       -- a run of I lines and an S line more, whose motors are `records` after it
-      module _ (records : List Motor) (next m : ℕ) (found : next_at file i.at ≡ Taken (S period) next)
+      module _ (records : List Motor) (next m : ℕ) (found : next_at file i.at ≡ Some (S period, next))
           (ok : part_refusal here.bench.motors (min here.bench.count most_motors) i.words period ≡ 0)
           (f : records ≡ part_after here.bench.motors (min here.bench.count most_motors) i.words period) where
         moment_is : moment_after next (bench_at i.at b here.time) (S period) ≡ moment_of (after_scan here i period records next m).recording

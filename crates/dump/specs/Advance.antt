@@ -1,11 +1,10 @@
 -- What a call that takes the next lines of a file does: it puts what they add to the dump into the lent buffer.
-use Rattle.std.specs.Prelude.{ℕ, ◌+◌, ◌<◌, ◌≤◌, ◌≡◌, List, [], ◌++◌, eqb, length, take}
+use Rattle.std.specs.Prelude.{ℕ, ◌+◌, ◌<◌, ◌≤◌, ◌≡◌, List, [], ◌++◌, eqb, length, take, Some, None}
 use Rattle.words.specs.Word.{when◌then◌else◌}
 use Rattle.rules.specs.declared.Motor.{Motor}
 use Rattle.sheet.specs.Grammar.{next_at}
 use Rattle.sheet.specs.declared.Request.{Request}
 use Rattle.sheet.specs.declared.Request.TheVariants.{Motor as M, Input as I, Scan as S, Refused}
-use Rattle.sheet.specs.declared.Next.TheVariants.{Taken, Done}
 use Rattle.totals.specs.Running.{capped}
 use Rattle.interpreter.specs.State.{State, empty_state, refusal_for, changed, too_long}
 use Rattle.interpreter.specs.declared.Bench.{Bench}
@@ -69,11 +68,11 @@ added p q Refused = []
 -- of the file.
 pub data Through (file : List ℕ) (from : Moment) : List ℕ → Moment → Type 0 where
   none : Through file from [] from
-  accepted : {piece : List ℕ} {p : Moment} {r : Request} {next : ℕ} → Through file from piece p → next_at file p.at ≡ Taken r next
+  accepted : {piece : List ℕ} {p : Moment} {r : Request} {next : ℕ} → Through file from piece p → next_at file p.at ≡ Some (r, next)
       → refusal_for (state_of p) r ≡ 0 → Through file from (piece ++ added p (moment_after next p r) r) (moment_after next p r)
-  refused : {piece : List ℕ} {p : Moment} {r : Request} {next : ℕ} → Through file from piece p → next_at file p.at ≡ Taken r next
+  refused : {piece : List ℕ} {p : Moment} {r : Request} {next : ℕ} → Through file from piece p → next_at file p.at ≡ Some (r, next)
       → (refusal_for (state_of p) r ≡ 0 → ⊥) → Through file from (piece ++ first_text p.scans p.motors) (past_end file p)
-  ended : {piece : List ℕ} {p : Moment} → Through file from piece p → p.at ≤ length file → next_at file p.at ≡ Done
+  ended : {piece : List ℕ} {p : Moment} → Through file from piece p → p.at ≤ length file → next_at file p.at ≡ None
       → Through file from (piece ++ first_text p.scans p.motors) (past_end file p)
 
 -- No line adds more, nor the end: header and #0 for 32 motors and a time with 64 signals, with ten digits for each number
@@ -82,7 +81,7 @@ most_put = 2633
 
 -- The line at a recording's place is no S line that is accepted.
 abbrev pub NoScan : List ℕ → Recording → Type 0
-NoScan file r = (period next : ℕ) → next_at file r.at ≡ Taken (S period) next → refusal_for (state_of (moment_of r)) (S period) ≡ 0 → ⊥
+NoScan file r = (period next : ℕ) → next_at file r.at ≡ Some (S period, next) → refusal_for (state_of (moment_of r)) (S period) ≡ 0 → ⊥
 
 -- A step by a line or the end of the file: what it adds is put, and is no more than that may be.
 pub record Advance (file : List ℕ) (s : Recording) (out : List ℕ) (to : ℕ) (after : List ℕ) (r : Recorded) : Type 0 where

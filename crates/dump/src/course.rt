@@ -1,7 +1,6 @@
 // A file taken line by line.
-ghost use Rattle.std.specs.Prelude.{◌≡◌, ◌≤◌, length};
+ghost use Rattle.std.specs.Prelude.{◌≡◌, ◌≤◌, length, Some};
 ghost use Rattle.sheet.specs.Grammar.{next_at};
-ghost use Rattle.sheet.specs.declared.Next.TheVariants.{Taken};
 ghost use Rattle.dump.specs.Claim.{DumpClaim};
 ghost use Rattle.dump.specs.Advance.{NoScan, Finish, Begin, Advance, Fill};
 
@@ -9,7 +8,7 @@ use crate::scans::{stand, take_scans};
 use crate::signals::{output_states, put_first};
 use crate::{Recorded, Recording};
 use interpreter::{act, empty, in_use, is_too_long};
-use sheet::{Next, Request, next_request};
+use sheet::{Request, next_request};
 
 // The most bytes that a line of a file adds to the dump, or its end.
 const MOST_PUT: usize = 2633;
@@ -55,7 +54,7 @@ fn take_request(
     out: &mut [u8],
     to: usize,
 ) -> Recorded
-    requires { (next_at file.now s.at ≡ Taken request next) × NoScan file.now s }
+    requires { (next_at file.now s.at ≡ Some (request, next)) × NoScan file.now s }
     ensures { Advance file.now s out.old to out.new result }
 {
     let bench = s.bench;
@@ -73,8 +72,8 @@ fn take_line(file: &[u8], s: Recording, out: &mut [u8], to: usize) -> Recorded
     ensures { Advance file.now s out.old to out.new result }
 {
     match next_request(file, s.at) {
-        Next::Taken(request, next) => take_request(file, s, request, next, out, to),
-        Next::Done => finish(file, s, out, to),
+        Some((request, next)) => take_request(file, s, request, next, out, to),
+        None => finish(file, s, out, to),
     }
 }
 

@@ -9,8 +9,8 @@ use lib.ListN.{length, take, set, length-set}
 use lib.Seq.{take-set-lt}
 use Rattle.rules.specs.Refusals.{word_ok}
 use Rattle.sheet.specs.declared.Request.{Request}
-use Rattle.sheet.specs.declared.Next.{Next}
-use Rattle.sheet.specs.declared.Next.TheVariants.{Taken, Done}
+use Rattle.std.specs.Prelude.{Option, Some, None}
+use Rattle.std.proofs.lemmas.Option.{none-some, some_pair_parts}
 use Rattle.sheet.specs.declared.Request.TheVariants.{Input as I, Scan as S}
 use Rattle.sheet.proofs.RequestLaws.{taken}
 use Rattle.interpreter.specs.State.{input_refusal}
@@ -49,20 +49,20 @@ module _ {file words : List ℕ} {held at line : ℕ} where
 -- ---- which line stands at a place
 
 -- no line
-pub no_line : {period next : ℕ} → ◌≡◌ {A = Next} Done (Taken (S period) next) → ⊥
-no_line e = let z : ◌≡◌ {A = ℕ} 0 1 = cc in omega arith
+pub no_line : {period next : ℕ} → ◌≡◌ {A = Option (Request × ℕ)} None (Some (S period, next)) → ⊥
+no_line e = none-some _ e
 
 -- the request that stands there
-pub same_request : {r r' : Request} {next next' : ℕ} → Taken r next ≡ Taken r' next' → r ≡ r'
-same_request e = cc
+pub same_request : {r r' : Request} {next next' : ℕ} → ◌≡◌ {A = Option (Request × ℕ)} (Some (r, next)) (Some (r', next')) → r ≡ r'
+same_request e = (some_pair_parts _ _ _ _ e).0
 
 -- an S line of this period
-pub same_period : {period next period' next' : ℕ} → Taken (S period) next ≡ Taken (S period') next' → period ≡ period'
-same_period e = cc
+pub same_period : {period next period' next' : ℕ} → ◌≡◌ {A = Option (Request × ℕ)} (Some (S period, next)) (Some (S period', next')) → period ≡ period'
+same_period e = let r = (some_pair_parts _ _ _ _ e).0 in cc
 
 -- and of I lines
-pub no_input_line : {number word next : ℕ} → ◌≡◌ {A = Next} Done (Taken (I number word) next) → ⊥
-no_input_line e = let z : ◌≡◌ {A = ℕ} 0 1 = cc in omega arith
+pub no_input_line : {number word next : ℕ} → ◌≡◌ {A = Option (Request × ℕ)} None (Some (I number word, next)) → ⊥
+no_input_line e = none-some _ e
 
-pub same_input : {number word next number' word' next' : ℕ} → Taken (I number word) next ≡ Taken (I number' word') next' → (number ≡ number') × (word ≡ word')
-same_input e = (cc, cc)
+pub same_input : {number word next number' word' next' : ℕ} → ◌≡◌ {A = Option (Request × ℕ)} (Some (I number word, next)) (Some (I number' word', next')) → (number ≡ number') × (word ≡ word')
+same_input e = let r = (some_pair_parts _ _ _ _ e).0 in (cc, cc)

@@ -1,10 +1,9 @@
 -- Lines read ahead of what they do: runs of I lines, which change nothing but the words that the motors hold, and S lines.
 use Rattle.std.specs.List.{list_all}
-use Rattle.std.specs.Prelude.{ℕ, ◌-◌, min, ◌≡◌, true, false, List, set, take}
+use Rattle.std.specs.Prelude.{ℕ, ◌-◌, min, ◌≡◌, true, false, List, set, take, Some}
 use Rattle.rules.specs.Refusals.{most_motors, in_range, word_ok, period_ok}
 use Rattle.sheet.specs.Grammar.{next_at}
 use Rattle.sheet.specs.declared.Request.TheVariants.{Input as I, Scan as S}
-use Rattle.sheet.specs.declared.Next.TheVariants.{Taken}
 use Rattle.interpreter.specs.State.{next_number, input_refusal}
 use Rattle.interpreter.specs.declared.Bench.{Bench}
 use Rattle.interpreter.specs.declared.lines.NextInput.{NextInput}
@@ -15,11 +14,11 @@ use Rattle.interpreter.specs.declared.lines.NextScan.TheVariants.{Period, Other 
 
 -- The line at a place is no I line that is accepted where so many motors are held.
 abbrev pub NoInput : List ℕ → ℕ → ℕ → Type 0
-NoInput file held at = (number word next : ℕ) → next_at file at ≡ Taken (I number word) next → input_refusal held number word ≡ 0 → ⊥
+NoInput file held at = (number word next : ℕ) → next_at file at ≡ Some (I number word, next) → input_refusal held number word ≡ 0 → ⊥
 
 -- The line at a place is an I line that is accepted where so many motors are held; of any other answer nothing is said.
 abbrev pub Found : List ℕ → ℕ → ℕ → NextInput → Type 0
-Found file held at (Word number word next) = (next_at file at ≡ Taken (I number word) next) × (input_refusal held number word ≡ 0)
+Found file held at (Word number word next) = (next_at file at ≡ Some (I number word, next)) × (input_refusal held number word ≡ 0)
 Found file held at Other = Unit {0}
 
 -- And none is missed: after any other answer no such line stands there.
@@ -30,7 +29,7 @@ NoneMissed file held at Other = NoInput file held at
 -- I lines accepted one after another, from a place on: the words, the place and the line's number that they lead to
 pub data InputLines (file : List ℕ) (held : ℕ) (words : List ℕ) (at line : ℕ) : List ℕ → ℕ → ℕ → Type 0 where
   none : InputLines file held words at line words at line
-  one_more : {later : List ℕ} {here number word next k : ℕ} → InputLines file held words at line later here k → next_at file here ≡ Taken (I number word) next
+  one_more : {later : List ℕ} {here number word next k : ℕ} → InputLines file held words at line later here k → next_at file here ≡ Some (I number word, next)
       → input_refusal held number word ≡ 0 → InputLines file held words at line (set later (number - 1) word) next (next_number k)
 
 -- All of them, up to the first line that is refused or of another kind
@@ -40,8 +39,8 @@ pub record InputRun (file : List ℕ) (held : ℕ) (words : List ℕ) (at line :
 
 -- The line at a place is an S line, and its period is one of a scan; after any other answer it is not.
 abbrev pub FoundScan : List ℕ → ℕ → NextScan → Type 0
-FoundScan file at (Period period next) = (next_at file at ≡ Taken (S period) next) × (period_ok period ≡ true)
-FoundScan file at Stop = (period next : ℕ) → next_at file at ≡ Taken (S period) next → period_ok period ≡ false
+FoundScan file at (Period period next) = (next_at file at ≡ Some (S period, next)) × (period_ok period ≡ true)
+FoundScan file at Stop = (period next : ℕ) → next_at file at ≡ Some (S period, next) → period_ok period ≡ false
 
 -- What a scan of a bench needs besides its period: every record and every word in use is in its range.
 pub record ReadyBench (b : Bench) : Type 0 where

@@ -4,7 +4,7 @@ ghost use Rattle.rules.specs.Refusals.{most_motors};
 ghost use Rattle.interpreter.specs.Lines.{Found, NoneMissed, InputRun, FoundScan};
 
 use crate::acts::{in_use, input_refusal, next_number};
-use sheet::{Next, Request, next_request};
+use sheet::{Request, next_request};
 use table::MOST_MOTORS;
 
 // An I line that is accepted, with the place of the next line; or any other line.
@@ -30,7 +30,7 @@ fn next_input(file: &[u8], held: usize, at: usize) -> NextInput
     if !sheet::is_at(file, at, b'I') {
         return NextInput::Other;
     }
-    let Next::Taken(request, next) = next_request(file, at) else {
+    let Some((request, next)) = next_request(file, at) else {
         return NextInput::Other;
     };
     let Request::Input { number, word } = request else {
@@ -79,7 +79,7 @@ pub enum NextScan {
 pub fn next_scan(file: &[u8], at: usize) -> NextScan
     ensures { FoundScan file.now at result }
 {
-    let Next::Taken(request, next) = next_request(file, at) else {
+    let Some((request, next)) = next_request(file, at) else {
         return NextScan::Other;
     };
     let Request::Scan { period } = request else {

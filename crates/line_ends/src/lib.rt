@@ -2,26 +2,21 @@
 // it is. Where there is no LF, the answer is the slice's length.
 #![tactic(auto)]
 
-ghost use Rattle.std.specs.Prelude.{◌≡◌, length};
+ghost use Rattle.std.specs.Prelude.{◌≡◌, length, unwrap_or};
 ghost use Rattle.sheet.specs.Lines.{found_lf};
-ghost use Rattle.line_ends.specs.Place.{place_or};
 
-use sheet::{Found, find_lf, index_from};
+use sheet::{find_lf, index_from};
 
 // The first LF at or after a place, as the bench finds it.
-#[tactic(auto, unfolding(crate::specs::Place::place_or))]
 pub fn first_lf(file: &[u8], at: usize) -> usize
-    ensures { result ≡ place_or (length file.now) (found_lf file.now at) }
+    ensures { result ≡ unwrap_or (found_lf file.now at) (length file.now) }
 {
-    match find_lf(file, at) {
-        Found::At(i) => i,
-        Found::Nothing => file.len(),
-    }
+    find_lf(file, at).unwrap_or(file.len())
 }
 
 // The same, looked for byte by byte: what the other is measured against.
 pub fn first_lf_by_bytes(file: &[u8], at: usize) -> usize
-    ensures { result ≡ place_or (length file.now) (found_lf file.now at) }
+    ensures { result ≡ unwrap_or (found_lf file.now at) (length file.now) }
 {
     let i = index_from(file, at, b'\n');
     if i < file.len() { i } else { file.len() }

@@ -12,7 +12,7 @@ use Rattle.totals.specs.declared.Totals.{Totals}
 use Rattle.totals.specs.Running.{all_totals}
 use Rattle.sheet.specs.declared.Request.{Request}
 use Rattle.sheet.specs.declared.Request.TheVariants.{Motor as M, Input as I, Scan as S, Refused}
-use Rattle.sheet.specs.declared.Next.TheVariants.{Taken, Done}
+use Rattle.std.specs.Prelude.{Some, None}
 use Rattle.sheet.specs.Grammar.{next_at}
 use Rattle.sheet.proofs.RequestLaws.{taken as Taken-step}
 use Rattle.report.specs.Puts.{Puts}
@@ -44,7 +44,7 @@ sitting bench at line = record { bench = bench; at = at; line = line }
 
 module _ {file : List ℕ} {s : Sitting} {page after : Page} where
   -- no line is left
-  pub at_end_lem : s.at ≤ length file → next_at file s.at ≡ Done → length s.bench.motors ≡ 32 → Puts page (at_end (view_of s.bench)) after
+  pub at_end_lem : s.at ≤ length file → next_at file s.at ≡ None → length s.bench.motors ≡ 32 → Puts page (at_end (view_of s.bench)) after
       → Advance print_walk file s page (sitting s.bench (length file + 1) s.line) after
   unfolding most_motors
   at_end_lem l f is p =
@@ -56,7 +56,7 @@ module _ {file : List ℕ} {s : Sitting} {page after : Page} where
         further = omega arith;
       }
 
-  module _ {r : Request} {next : ℕ} (found : next_at file s.at ≡ Taken r next) where
+  module _ {r : Request} {next : ℕ} (found : next_at file s.at ≡ Some (r, next)) where
     -- a request that is refused
     pub stops : {refusal : ℕ} → refusal ≡ refusal_for (view_of s.bench) r → (refusal ≡ 0 → ⊥) → Puts page (refusal_of s.line refusal) after
         → Advance print_walk file s page (sitting s.bench (length file + 1) s.line) after
@@ -84,13 +84,13 @@ module _ {file : List ℕ} {s : Sitting} {page after : Page} where
           }
 
 -- one that is no scan prints nothing
-pub goes_on_quietly : {file : List ℕ} {s : Sitting} {page : Page} {r : Request} {next : ℕ} → next_at file s.at ≡ Taken r next → NoScan print_walk file s
+pub goes_on_quietly : {file : List ℕ} {s : Sitting} {page : Page} {r : Request} {next : ℕ} → next_at file s.at ≡ Some (r, next) → NoScan print_walk file s
     → (b : Bench) → view_of b ≡ state_after (view_of s.bench) r → length b.motors ≡ 32 → refusal_for (view_of s.bench) r ≡ 0
     → Advance print_walk file s page (sitting b next (next_number s.line)) page
 unfolding answer_of
 goes_on_quietly {file} {s} {page} {r} {next} found no_scan b state is ok = goes_on found b state is ok (rw (no_rows r found ok) puts_none)
   where
-    no_rows : (q : Request) → next_at file s.at ≡ Taken q next → refusal_for (view_of s.bench) q ≡ 0 → answer_of (view_of b) q ≡ []
+    no_rows : (q : Request) → next_at file s.at ≡ Some (q, next) → refusal_for (view_of s.bench) q ≡ 0 → answer_of (view_of b) q ≡ []
     no_rows (M number ops1 ops2 w u) at e = refl
     no_rows (I number word) at e = refl
     no_rows (S period) at e = absurd (no_scan period next at e)
@@ -138,7 +138,7 @@ module _ {file : List ℕ} {s here : Sitting} {page after : Page} (r : Lines-run
 
   -- a run of I lines and an S line more: `records` are the motors after its scan, and `totals` their totals
   pub run_scan : {period next : ℕ} {records : List Motor} {totals : List Totals} {later : Page} → length here.bench.totals ≡ 32 → length here.bench.words ≡ 32
-      → next_at file i.at ≡ Taken (S period) next
+      → next_at file i.at ≡ Some (S period, next)
       → part_refusal here.bench.motors (min here.bench.count most_motors) i.words period ≡ 0
       → records ≡ part_after here.bench.motors (min here.bench.count most_motors) i.words period
       → totals ≡ all_totals here.bench.totals here.bench.motors (take (min here.bench.count most_motors) i.words) period → Room print_walk after

@@ -25,7 +25,6 @@ use Rattle.totals.specs.Running.{on_after, totals_after, scan_totals, all_totals
 use Rattle.totals.proofs.Lists.{none_taken, length_totals, one_counted}
 use Rattle.totals.proofs.AtRest.{with_on, rest_totals}
 use Rattle.sheet.specs.declared.Request.TheVariants.{Scan as S}
-use Rattle.sheet.specs.declared.Next.TheVariants.{Taken}
 use Rattle.report.specs.Puts.{Puts}
 use Rattle.report.specs.declared.page.Page.{Page}
 use Rattle.report.specs.Print.{row_of}
@@ -128,7 +127,7 @@ module _ {file : List ℕ} {s here : Sitting} {page after : Page} (r : Run print
   right : list_all word_ok (take held i.words) ≡ true
   right = words_right run.lines ready.words
 
-  module _ (period next : ℕ) (found : next_at file i.at ≡ Taken (S period) next) (time : period_ok period ≡ true) where
+  module _ (period next : ℕ) (found : next_at file i.at ≡ Some (S period, next)) (time : period_ok period ≡ true) where
     -- each motor in use is accepted
     pub each_due : (k : ℕ) (d : Motor) → k < min here.bench.count most_motors → one_refusal (get_or here.bench.motors k d) (get_or i.words k 0) period ≡ 0
     each_due k d l = due here.bench.motors i.words held few is js₁ ready.records right period time k d l

@@ -12,7 +12,7 @@ use course::Course;
 use interpreter::{Bench, act, empty, in_use, is_too_long, next_number, scan_refusal};
 use report::{Page, TotalsRow};
 use rules::Motor;
-use sheet::{Next, next_request};
+use sheet::next_request;
 use totals::Totals;
 use words::choose;
 
@@ -77,22 +77,19 @@ impl Course for Sitting {
 
     // A refused line is the last.
     fn line(&mut self, file: &[u8], page: &mut Page) {
-        match next_request(file, self.at) {
-            Next::Taken(request, next) => {
-                let acted = act(self.bench, request);
-                if acted.refusal == 0 {
-                    self.bench = acted.bench;
-                    self.at = next;
-                    self.line = next_number(self.line);
-                } else {
-                    page.refusal(self.line, acted.refusal);
-                    self.at = file.len() + 1;
-                }
-            }
-            Next::Done => {
-                put_end(self.bench, page);
-                self.at = file.len() + 1;
-            }
+        let Some((request, next)) = next_request(file, self.at) else {
+            put_end(self.bench, page);
+            self.at = file.len() + 1;
+            return;
+        };
+        let acted = act(self.bench, request);
+        if acted.refusal == 0 {
+            self.bench = acted.bench;
+            self.at = next;
+            self.line = next_number(self.line);
+        } else {
+            page.refusal(self.line, acted.refusal);
+            self.at = file.len() + 1;
         }
     }
 

@@ -13,7 +13,7 @@ use Rattle.words.proofs.Laws.{and_true}
 use Rattle.sheet.specs.Split.{index_of}
 use Rattle.sheet.specs.Number.{largest, is_digit, all_digits, value_from, number_of}
 use Rattle.sheet.specs.WordField.{word_of}
-use Rattle.sheet.specs.declared.Number.TheVariants.{Value}
+use Rattle.std.specs.Prelude.{Some}
 use Rattle.sheet.proofs.SplitLaws.{last_byte}
 use Rattle.sheet.proofs.NumberLaws.{value_grows, digit_range, all_snoc, value_more, digits_free, Spells, spells_number, number_spells}
 use Rattle.sheet.proofs.WordFieldLaws.{number_word}
@@ -123,15 +123,15 @@ digits_spelt (suc k) n s p h =
 
 -- ---- both ways
 
-pub read_back : (n : ℕ) → n ≤ largest → number_of (decimal n) ≡ Value n
+pub read_back : (n : ℕ) → n ≤ largest → number_of (decimal n) ≡ Some n
 unfolding decimal
 read_back n h = spells_number (spells_digits 9 n (omega arith)) h
 
 -- in a word field too
-pub word_back : (n : ℕ) → n ≤ largest → word_of (decimal n) ≡ Value n
+pub word_back : (n : ℕ) → n ≤ largest → word_of (decimal n) ≡ Some n
 word_back n h = number_word (decimal n) n (read_back n h)
 
-pub print_back : (field : List ℕ) (n : ℕ) → number_of field ≡ Value n → field ≡ decimal n
+pub print_back : (field : List ℕ) (n : ℕ) → number_of field ≡ Some n → field ≡ decimal n
 unfolding decimal
 print_back field n e = let p = number_spells field n e in digits_spelt 9 n field p.0 (omega (arith, p.1))
 

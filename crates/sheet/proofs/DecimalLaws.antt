@@ -13,8 +13,7 @@ use Rattle.sheet.specs.Number.{number_of}
 use Rattle.sheet.specs.WordField.{has0x, word_of}
 use Rattle.sheet.specs.Grammar.{letter_m, letter_i, is_kind, number_in, word_in, with_value, motor_from, input_from, motor_of, input_of, scan_of, request_of, text_request}
 use Rattle.sheet.specs.DecimalWords.{decimal_motor, decimal_input, decimal_scan, decimal_request, decimal_text, line_has0x, text_has0x}
-use Rattle.sheet.specs.declared.Number.{Number}
-use Rattle.sheet.specs.declared.Number.TheVariants.{Value, Refused as NoNumber}
+use Rattle.std.specs.Prelude.{Option, Some, None}
 use Rattle.sheet.specs.declared.Request.TheVariants.{Refused}
 use Rattle.sheet.proofs.WordFieldLaws.{number_no_0x}
 
@@ -41,27 +40,27 @@ same_request l h = go (is_kind letter_m 6 l) refl (is_kind letter_i 3 l) refl h
 -- ---- a line that makes a request if words are decimal alone
 
 -- a field whose number is there
-is_value : (l : List ℕ) (k : ℕ) → (number_in l k ≡ NoNumber → ⊥) → has0x (field_of l k) ≡ false
+is_value : (l : List ℕ) (k : ℕ) → (number_in l k ≡ None → ⊥) → has0x (field_of l k) ≡ false
 unfolding number_in
 is_value l k h = go (number_of (field_of l k)) refl
   where
-    go : (a : Number) → number_of (field_of l k) ≡ a → has0x (field_of l k) ≡ false
-    go (Value n) e = number_no_0x (field_of l k) n e
-    go NoNumber e = absurd (h e)
+    go : (a : Option ℕ) → number_of (field_of l k) ≡ a → has0x (field_of l k) ≡ false
+    go (Some n) e = number_no_0x (field_of l k) n e
+    go None e = absurd (h e)
 
 -- numbers of which one is missing make no request
-no_motor : (a b c d e : Number) → (b ≡ NoNumber) ⊎ (c ≡ NoNumber) → motor_from a b c d e ≡ Refused
+no_motor : (a b c d e : Option ℕ) → (b ≡ None) ⊎ (c ≡ None) → motor_from a b c d e ≡ Refused
 unfolding motor_from with_value
-no_motor NoNumber b c d e h = refl
-no_motor (Value a) NoNumber c d e h = refl
-no_motor (Value a) (Value b) NoNumber d e h = refl
-no_motor (Value a) (Value b) (Value c) d e (inl h) = let z : ◌≡◌ {A = ℕ} 0 1 = cc in absurd (omega arith)
-no_motor (Value a) (Value b) (Value c) d e (inr h) = let z : ◌≡◌ {A = ℕ} 0 1 = cc in absurd (omega arith)
+no_motor None b c d e h = refl
+no_motor (Some a) None c d e h = refl
+no_motor (Some a) (Some b) None d e h = refl
+no_motor (Some a) (Some b) (Some c) d e (inl h) = let z : ◌≡◌ {A = ℕ} 0 1 = cc in absurd (omega arith)
+no_motor (Some a) (Some b) (Some c) d e (inr h) = let z : ◌≡◌ {A = ℕ} 0 1 = cc in absurd (omega arith)
 
-no_input : (a : Number) → input_from a NoNumber ≡ Refused
+no_input : (a : Option ℕ) → input_from a None ≡ Refused
 unfolding input_from with_value
-no_input (Value a) = refl
-no_input NoNumber = refl
+no_input (Some a) = refl
+no_input None = refl
 
 made_no_0x : (l : List ℕ) → (decimal_request l ≡ Refused → ⊥) → line_has0x l ≡ false
 unfolding line_has0x decimal_request decimal_motor decimal_input when◌then◌else◌

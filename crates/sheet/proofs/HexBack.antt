@@ -14,7 +14,7 @@ use Rattle.words.specs.Word.{when◌then◌else◌}
 use Rattle.words.proofs.Laws.{and_true, agree_at, both_le}
 use Rattle.sheet.specs.Number.{is_digit}
 use Rattle.sheet.specs.WordField.{is_hex_digit, hex_digit, all_hex_digits, hex_from, is_hex_count, hex_number, has0x, word_of, hex_digit_of, hex_digits_of, hexadecimal}
-use Rattle.sheet.specs.declared.Number.TheVariants.{Value}
+use Rattle.std.specs.Prelude.{Some}
 use Rattle.sheet.proofs.SplitLaws.{last_byte}
 use Rattle.sheet.proofs.WordFieldLaws.{digit_small, HexSays, hex_says, hex_field}
 
@@ -80,7 +80,7 @@ unfolding hex_digits_of
 hex_length zero n = refl
 hex_length (suc k) n = omega (arith, length-append (hex_digits_of k (n / 16)) (hex_digit_of (n % 16) ∷ []), hex_length k (n / 16))
 
-pub hex_read_back : (k n : ℕ) → 1 ≤ k → k ≤ 8 → n < 16 ^ k → word_of (hexadecimal k n) ≡ Value n
+pub hex_read_back : (k n : ℕ) → 1 ≤ k → k ≤ 8 → n < 16 ^ k → word_of (hexadecimal k n) ≡ Some n
 unfolding word_of has0x hex_number is_hex_count hexadecimal when◌then◌else◌
 hex_read_back k n h l f =
     let d = digits_say k n f in
@@ -112,7 +112,7 @@ digits_spelt (suc k) s n h e =
     ∙ ap (λ (x : ℕ). p ++ (x ∷ [])) l.digit
     ∙ ap (λ (t : List ℕ). t ++ (hex_digit_of (n % 16) ∷ [])) (digits_spelt k p (n / 16) (length-take-le k s (omega arith)) l.rest)
 
-pub hex_print_back : (s : List ℕ) (n : ℕ) → has0x s ≡ true → word_of s ≡ Value n → s ≡ hexadecimal (length s - 2) n
+pub hex_print_back : (s : List ℕ) (n : ℕ) → has0x s ≡ true → word_of s ≡ Some n → s ≡ hexadecimal (length s - 2) n
 unfolding word_of hexadecimal when◌then◌else◌
 hex_print_back s n h e =
     let v = hex_says (drop 2 s) n (rw h at e) in

@@ -1,22 +1,22 @@
 -- Laws of the hexadecimal digits from a place on. Assumes nothing.
 use Prim.Native.Nat.{ℕ, suc, ◌+◌, ◌-◌, ◌*◌, ◌^◌, ◌<◌, ◌≤◌}
 use mathlib.Core.Path.{◌≡◌, refl, sym, ap, ◌∙◌}
-use mathlib.Core.Bool.{Bool, true, false, ◌&&◌, and-false}
+use mathlib.Core.Bool.{Bool, true, false, ◌&&◌, and-false, false≢true}
 use mathlib.Core.List.{List, [], ◌∷◌}
 use native.Mathlib.Omega.{arith}
 use native.Mathlib.Nat.{pow-zero, pow-suc}
 use lib.ListN.{length, take, drop, get_or, length-drop, drop_of_length-le}
 use lib.Seq.{drop-cons, drop-drop}
-use lib.Dec.{ltb}
-use borrow.Author.Tests.{le-leb, lt-leb, ltb-true, ltb-false}
+use lib.Dec.{eqb, ltb}
+use borrow.Author.Tests.{eq-eqb, ne_eqb, le-leb, lt-leb, ltb-true, ltb-false}
 use Rattle.words.specs.Word.{when◌then◌else◌}
 use Rattle.words.proofs.Laws.{and_true, either}
 use Rattle.sheet.specs.Split.{between}
 use Rattle.sheet.specs.WordField.{is_hex_digit, hex_digit, all_hex_digits, hex_from, is_hex_count, hex_number, has0x, word_of}
 use Rattle.sheet.specs.Places.{hex_digit_at, hex_run, hex_run_at, SaidAt, Read}
-use Rattle.sheet.specs.declared.Number.TheVariants.{Value, Refused}
-use Rattle.sheet.specs.declared.quick.Figure.{Figure}
-use Rattle.sheet.specs.declared.quick.Figure.TheVariants.{Said, Nothing}
+use Rattle.std.specs.Prelude.{Option, Some, None}
+use Rattle.std.specs.Bool.{then_some}
+use Rattle.std.proofs.lemmas.Option.{none-some, some_pair_parts}
 use Rattle.sheet.proofs.WordFieldLaws.{digit_small, hex_fits, hex_field}
 
 -- ---- the digit at a place
@@ -79,20 +79,20 @@ module _ {s : List ℕ} {at value i : ℕ} (r : Run s at value i) where
         count = omega (arith, r.count, ap length d.run, r.from);
       }
 
-  pub run_nine : hex_digit_at s i < 16 → 8 < suc i - at → hex_run_at s at ≡ Nothing
+  pub run_nine : hex_digit_at s i < 16 → 8 < suc i - at → hex_run_at s at ≡ None
   unfolding hex_run_at is_hex_count when◌then◌else◌
   run_nine h l =
       let n = length (hex_run (drop at s)) in
       let m : 8 < n = omega (arith, r.count, ap length (hex_here s i h).run, r.from) in
       rw (le-leb 1 n (omega arith), lt-leb n 8 m)
 
-  pub run_without : 16 ≤ hex_digit_at s i → i ≡ at → hex_run_at s at ≡ Nothing
+  pub run_without : 16 ≤ hex_digit_at s i → i ≡ at → hex_run_at s at ≡ None
   unfolding hex_run_at is_hex_count when◌then◌else◌
   run_without h e =
       let n = length (hex_run (drop at s)) in
       rw (lt-leb 1 n (omega (arith, r.count, ap length (run_end s i h))))
 
-  pub run_said : 16 ≤ hex_digit_at s i → (i ≡ at → ⊥) → hex_run_at s at ≡ Said value i
+  pub run_said : 16 ≤ hex_digit_at s i → (i ≡ at → ⊥) → hex_run_at s at ≡ Some (value, i)
   unfolding hex_run_at is_hex_count hex_from when◌then◌else◌
   run_said h e =
       let n = length (hex_run (drop at s)) in
@@ -150,41 +150,30 @@ all_or_part s h = go (all_hex_digits s) refl
     go false e = e
 
 module _ (s : List ℕ) where
-  pub digits_none : hex_run_at s 0 ≡ Nothing → hex_number s ≡ Refused
+  pub digits_none : hex_run_at s 0 ≡ None → hex_number s ≡ None
   unfolding hex_run_at hex_number when◌then◌else◌
   digits_none e = go (is_hex_count (length (hex_run s))) refl e (all_hex_digits s) refl
     where
-      go : (t : Bool) → is_hex_count (length (hex_run s)) ≡ t → (when t then Said (hex_from 0 (hex_run s)) (0 + length (hex_run s)) else Nothing) ≡ Nothing
-          → (y : Bool) → all_hex_digits s ≡ y → (when is_hex_count (length s) && y then Value (hex_from 0 s) else Refused) ≡ Refused
-      go true f e y g = let c : ◌≡◌ {A = ℕ} 0 1 = cc in absurd (omega arith)
+      go : (t : Bool) → is_hex_count (length (hex_run s)) ≡ t → then_some {T = ℕ × ℕ} t (hex_from 0 (hex_run s), 0 + length (hex_run s)) ≡ None
+          → (y : Bool) → all_hex_digits s ≡ y → then_some (is_hex_count (length s) && y) (hex_from 0 s) ≡ None
+      go true f e y g = absurd (none-some _ (sym e))
       go false f e true g = rw (sym (ap (λ (l : List ℕ). is_hex_count (length l)) (run_all s g)) ∙ f)
       go false f e false g = rw (and-false (is_hex_count (length s)))
 
-  module _ (value end : ℕ) (e : hex_run_at s 0 ≡ Said value end) where
-    pub digits_whole : end ≡ length s → hex_number s ≡ Value value
-    unfolding hex_run_at hex_number when◌then◌else◌
-    digits_whole h = go (is_hex_count (length (hex_run s))) refl e
-      where
-        go : (t : Bool) → is_hex_count (length (hex_run s)) ≡ t → (when t then Said (hex_from 0 (hex_run s)) (0 + length (hex_run s)) else Nothing) ≡ Said value end
-            → (when is_hex_count (length s) && all_hex_digits s then Value (hex_from 0 s) else Refused) ≡ Value value
-        go true f e =
-            let v : hex_from 0 (hex_run s) ≡ value = cc in
-            let p : 0 + length (hex_run s) ≡ end = cc in
-            let a = all_run s (omega arith) in
-            let q = run_all s a in
-            rw (sym (ap (λ (l : List ℕ). is_hex_count (length l)) q) ∙ f, a, sym (ap (hex_from 0) q) ∙ v)
-        go false f e = let c : ◌≡◌ {A = ℕ} 0 1 = cc in absurd (omega arith)
-
-    pub digits_part : (end ≡ length s → ⊥) → hex_number s ≡ Refused
-    unfolding hex_run_at hex_number when◌then◌else◌
-    digits_part h = go (is_hex_count (length (hex_run s))) e
-      where
-        go : (t : Bool) → (when t then Said (hex_from 0 (hex_run s)) (0 + length (hex_run s)) else Nothing) ≡ Said value end
-            → (when is_hex_count (length s) && all_hex_digits s then Value (hex_from 0 s) else Refused) ≡ Refused
-        go true e =
-            let p : 0 + length (hex_run s) ≡ end = cc in
-            rw (all_or_part s (λ g. h (omega arith)), and-false (is_hex_count (length s)))
-        go false e = let c : ◌≡◌ {A = ℕ} 0 1 = cc in absurd (omega arith)
+  pub digits_said : {value end : ℕ} → hex_run_at s 0 ≡ Some (value, end) → hex_number s ≡ then_some (eqb end (length s)) value
+  unfolding hex_run_at hex_number
+  digits_said {value} {end} e = go (is_hex_count (length (hex_run s))) refl e (all_hex_digits s) refl
+    where
+      go : (t : Bool) → is_hex_count (length (hex_run s)) ≡ t → then_some {T = ℕ × ℕ} t (hex_from 0 (hex_run s), 0 + length (hex_run s)) ≡ Some (value, end)
+          → (y : Bool) → all_hex_digits s ≡ y → then_some (is_hex_count (length s) && y) (hex_from 0 s) ≡ then_some (eqb end (length s)) value
+      go true f e true g =
+          let p = some_pair_parts _ _ _ _ e in
+          let q = run_all s g in
+          rw (sym (ap (λ (l : List ℕ). is_hex_count (length l)) q) ∙ f, sym (ap (hex_from 0) q) ∙ p.0, eq-eqb end (length s) (omega (arith, p.1, ap length q)))
+      go true f e false g =
+          let p = (some_pair_parts _ _ _ _ e).1 in
+          rw (and-false (is_hex_count (length s)), ne_eqb end (length s) (λ k. false≢true (sym g ∙ all_run s (omega arith))))
+      go false f e y g = absurd (none-some _ e)
 
 -- ---- a word after 0x, where it stands
 
@@ -208,11 +197,11 @@ module _ (file : List ℕ) (at : ℕ) (x : has0x (drop at file) ≡ true) where
         says = ap word_of field ∙ rw (f, run_digits (drop (at + 2) file));
       }
 
-  pub run_word : (r : Figure) → r ≡ hex_run_at file (at + 2) → Read word_of file at r
+  pub run_word : (r : Option (ℕ × ℕ)) → r ≡ hex_run_at file (at + 2) → Read word_of file at r
   unfolding Read hex_run_at when◌then◌else◌
   run_word r e = go (is_hex_count (length (hex_run (drop (at + 2) file)))) refl e
     where
       go : (t : Bool) → is_hex_count (length (hex_run (drop (at + 2) file))) ≡ t
-          → r ≡ (when t then Said (hex_from 0 (hex_run (drop (at + 2) file))) (at + 2 + length (hex_run (drop (at + 2) file))) else Nothing) → Read word_of file at r
+          → r ≡ then_some {T = ℕ × ℕ} t (hex_from 0 (hex_run (drop (at + 2) file)), at + 2 + length (hex_run (drop (at + 2) file))) → Read word_of file at r
       go true f e = rw e (word_said f)
       go false f e = rw e tt

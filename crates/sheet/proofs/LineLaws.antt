@@ -13,8 +13,8 @@ use Rattle.words.specs.Word.{when◌then◌else◌}
 use Rattle.words.proofs.Laws.{both_le}
 use Rattle.sheet.specs.Split.{LF, split, index_of, between}
 use Rattle.sheet.specs.Lines.{found_lf, longest, Text, line, faulty, well_sized, text_of, texts_of, lines_of, first_line, line_at}
-use Rattle.sheet.specs.declared.Found.{Found}
-use Rattle.sheet.specs.declared.Found.TheVariants.{At, Nothing}
+use Rattle.std.specs.Prelude.{Option, Some, None}
+use Rattle.std.specs.Bool.{then_some}
 use Rattle.sheet.specs.declared.Line.{Line}
 use Rattle.sheet.specs.declared.Line.TheVariants.{Until, Refused, End}
 use Rattle.sheet.proofs.SplitLaws.{index_is, index_first, split_hit, split_none, split_part, parts_pos}
@@ -32,34 +32,34 @@ pub record FirstLF (file : List ℕ) (at i : ℕ) : Type 0 where
 abbrev pub NoLF : List ℕ → ℕ → Type 0
 NoLF file at = (k : ℕ) → at ≤ k → k < length file → get_or file k 0 ≡ LF → ⊥
 
-found·at : (t : Bool) (i j : ℕ) → (when t then At i else Nothing) ≡ At j → (t ≡ true) × (i ≡ j)
+found·at : (t : Bool) (i j : ℕ) → then_some t i ≡ Some j → (t ≡ true) × (i ≡ j)
 unfolding when◌then◌else◌
 found·at true i j e = (refl, (cc))
 found·at false i j e = let z : ◌≡◌ {A = ℕ} 0 1 = cc in absurd (omega arith)
 
-found·none : (t : Bool) (i : ℕ) → (when t then At i else Nothing) ≡ Nothing → t ≡ false
+found·none : (t : Bool) (i : ℕ) → then_some t i ≡ None → t ≡ false
 unfolding when◌then◌else◌
 found·none true i e = let z : ◌≡◌ {A = ℕ} 0 1 = cc in absurd (omega arith)
 found·none false i e = refl
 
 module _ (file : List ℕ) (at : ℕ) where
   -- by the place of the first LF, or the end
-  pub found_by : (i : ℕ) → i ≡ at + index_of LF (drop at file) → i < length file → found_lf file at ≡ At i
+  pub found_by : (i : ℕ) → i ≡ at + index_of LF (drop at file) → i < length file → found_lf file at ≡ Some i
   unfolding found_lf when◌then◌else◌
   found_by i e h = rw (← e, lt-ltb i (length file) h)
 
-  pub nothing_by : (i : ℕ) → i ≡ at + index_of LF (drop at file) → length file ≤ i → found_lf file at ≡ Nothing
+  pub nothing_by : (i : ℕ) → i ≡ at + index_of LF (drop at file) → length file ≤ i → found_lf file at ≡ None
   unfolding found_lf when◌then◌else◌
   nothing_by i e h = rw (← e, le-ltb i (length file) h)
 
-  pub found_place : (i : ℕ) → found_lf file at ≡ At i → (at + index_of LF (drop at file) ≡ i) × (i < length file)
+  pub found_place : (i : ℕ) → found_lf file at ≡ Some i → (at + index_of LF (drop at file) ≡ i) × (i < length file)
   unfolding found_lf
   found_place i e =
       let n : ℕ = at + index_of LF (drop at file) in
       let w = found·at (ltb n (length file)) n i e in
       (w.1, omega (arith, w.1, ltb-true n (length file) w.0))
 
-  pub found_past : found_lf file at ≡ Nothing → length file ≤ at + index_of LF (drop at file)
+  pub found_past : found_lf file at ≡ None → length file ≤ at + index_of LF (drop at file)
   unfolding found_lf
   found_past e =
       let n : ℕ = at + index_of LF (drop at file) in
@@ -76,7 +76,7 @@ module _ (file : List ℕ) (at : ℕ) where
   is_there_lem h = sym (get_or-drop at file (index_of LF (drop at file)) 0) ∙ index_is LF (drop at file) (omega (arith, length-drop at file))
 
   -- what the search gives is the first LF, and nothing only if there is none
-  pub found_first : (i : ℕ) → found_lf file at ≡ At i → FirstLF file at i
+  pub found_first : (i : ℕ) → found_lf file at ≡ Some i → FirstLF file at i
   found_first i e =
       let w = found_place i e in
       let p = w.0 in
@@ -87,11 +87,11 @@ module _ (file : List ℕ) (at : ℕ) where
         first = λ k h l. none_before k h (omega arith);
       }
 
-  pub found_nothing : found_lf file at ≡ Nothing → NoLF file at
+  pub found_nothing : found_lf file at ≡ None → NoLF file at
   found_nothing e k h l = none_before k h (omega (arith, found_past e))
 
   -- and the other way round: to show what the search gives, it is enough to know the bytes
-  pub first_found : (i : ℕ) → FirstLF file at i → found_lf file at ≡ At i
+  pub first_found : (i : ℕ) → FirstLF file at i → found_lf file at ≡ Some i
   first_found i f = found_by i (place (dec_lt i n) (dec_lt n i)) f.inside
     where
       n : ℕ
@@ -102,7 +102,7 @@ module _ (file : List ℕ) (at : ℕ) where
       place (no l) (yes m) = absurd (f.first n (omega arith) m (is_there_lem (omega (arith, f.inside))))
       place (no l) (no m) = omega arith
 
-  pub nothing_found : NoLF file at → found_lf file at ≡ Nothing
+  pub nothing_found : NoLF file at → found_lf file at ≡ None
   nothing_found f = nothing_by n refl (past (dec_lt n (length file)))
     where
       n : ℕ
@@ -146,12 +146,12 @@ module _ (file : List ℕ) (at : ℕ) where
   pub lines_end : length file ≤ at → lines_of (drop at file) ≡ []
   lines_end h = rw (drop_of_length-le file h) lines_none
 
-  pub lines_nothing : at < length file → found_lf file at ≡ Nothing → lines_of (drop at file) ≡ faulty ∷ []
+  pub lines_nothing : at < length file → found_lf file at ≡ None → lines_of (drop at file) ≡ faulty ∷ []
   lines_nothing h e =
       let p = found_past file at e in
       lines_open (drop at file) (omega (arith, length-drop at file)) (omega (arith, length-drop at file))
 
-  pub lines_found : (end : ℕ) → found_lf file at ≡ At end → lines_of (drop at file) ≡ text_of (between at end file) ∷ lines_of (drop (suc end) file)
+  pub lines_found : (end : ℕ) → found_lf file at ≡ Some end → lines_of (drop at file) ≡ text_of (between at end file) ∷ lines_of (drop (suc end) file)
   unfolding between
   lines_found end e =
       let w = found_place file at end e in
@@ -160,7 +160,7 @@ module _ (file : List ℕ) (at : ℕ) where
       let m : suc end ≡ at + suc (index_of LF (drop at file)) = omega arith in
       rw (n, m, ← drop-drop (suc (index_of LF (drop at file))) at file) (lines_hit (drop at file) (omega (arith, w.1, length-drop at file)))
 
-  pub between_size : (end : ℕ) → found_lf file at ≡ At end → length (between at end file) ≡ end - at
+  pub between_size : (end : ℕ) → found_lf file at ≡ Some end → length (between at end file) ≡ end - at
   unfolding between
   between_size end e = let w = found_place file at end e in length-take-le (end - at) (drop at file) (omega (arith, w.1, length-drop at file))
 
@@ -170,11 +170,11 @@ module _ (file : List ℕ) (at : ℕ) where
   unfolding line_at first_line
   line_end h = rw (lines_end h)
 
-  pub line_open : at < length file → found_lf file at ≡ Nothing → line_at file at ≡ Refused
+  pub line_open : at < length file → found_lf file at ≡ None → line_at file at ≡ Refused
   unfolding line_at first_line
   line_open h e = rw (lines_nothing h e)
 
-  module _ (end : ℕ) (e : found_lf file at ≡ At end) where
+  module _ (end : ℕ) (e : found_lf file at ≡ Some end) where
     lines_whole : well_sized (end - at) ≡ true → lines_of (drop at file) ≡ line (between at end file) ∷ lines_of (drop (suc end) file)
     unfolding text_of when◌then◌else◌
     lines_whole f = lines_found end e ∙ rw (between_size end e, f)
@@ -212,7 +212,7 @@ sized n e = both_le e
 pub stands : (file : List ℕ) (at : ℕ) → Stands file at (line_at file at)
 stands file at = go (dec_le (length file) at)
   where
-    at_end_lem : (end : ℕ) → found_lf file at ≡ At end → (t : Bool) → well_sized (end - at) ≡ t → Stands file at (line_at file at)
+    at_end_lem : (end : ℕ) → found_lf file at ≡ Some end → (t : Bool) → well_sized (end - at) ≡ t → Stands file at (line_at file at)
     at_end_lem end e true f =
         let n = sized (end - at) f in
         let w = found_place file at end e in
@@ -222,9 +222,9 @@ stands file at = go (dec_le (length file) at)
         let w = found_place file at end e in
         rw (line_faulty file at end e f) (refused {rest = lines_of (drop (suc end) file)} (omega (arith, w.0, w.1)) (lines_faulty file at end e f))
 
-    at_lf : at < length file → (f : Found) → found_lf file at ≡ f → Stands file at (line_at file at)
-    at_lf h (At end) e = at_end_lem end e (well_sized (end - at)) refl
-    at_lf h Nothing e = rw (line_open file at h e) (refused h (lines_nothing file at h e))
+    at_lf : at < length file → (f : Option ℕ) → found_lf file at ≡ f → Stands file at (line_at file at)
+    at_lf h (Some end) e = at_end_lem end e (well_sized (end - at)) refl
+    at_lf h None e = rw (line_open file at h e) (refused h (lines_nothing file at h e))
 
     go : Dec (length file ≤ at) → Stands file at (line_at file at)
     go (yes h) = rw (line_end file at h) (ended h)

@@ -13,7 +13,8 @@ use Rattle.words.specs.Word.{when◌then◌else◌}
 use Rattle.words.proofs.Laws.{and_true, both_le}
 use Rattle.sheet.specs.Split.{index_of}
 use Rattle.sheet.specs.Number.{largest, is_digit, all_digits, value_from, digits_number, leading_zero, number_of}
-use Rattle.sheet.specs.declared.Number.TheVariants.{Value, Refused}
+use Rattle.std.specs.Prelude.{Some, None}
+use Rattle.std.specs.Bool.{then_some}
 
 -- one byte read
 module _ (s : List ℕ) (i : ℕ) (h : i < length s) where
@@ -83,26 +84,26 @@ digits_free b (x ∷ s) f e = let w = and_true (is_digit x) (all_digits s) e in 
 
 -- ---- what a field of digits says
 
-pub no_digits : (s : List ℕ) → all_digits s ≡ false → digits_number s ≡ Refused
+pub no_digits : (s : List ℕ) → all_digits s ≡ false → digits_number s ≡ None
 unfolding digits_number when◌then◌else◌
 no_digits s e = rw e
 
-pub too_large : (s : List ℕ) → largest < value_from 0 s → digits_number s ≡ Refused
+pub too_large : (s : List ℕ) → largest < value_from 0 s → digits_number s ≡ None
 unfolding digits_number when◌then◌else◌
 too_large s h = rw (lt-leb (value_from 0 s) largest h, and-false (all_digits s))
 
-pub in_range_lem : (s : List ℕ) (v : ℕ) → all_digits s ≡ true → value_from 0 s ≡ v → v ≤ largest → digits_number s ≡ Value v
+pub in_range_lem : (s : List ℕ) (v : ℕ) → all_digits s ≡ true → value_from 0 s ≡ v → v ≤ largest → digits_number s ≡ Some v
 unfolding digits_number when◌then◌else◌
 in_range_lem s v d e h = rw (d, e, le-leb v largest h)
 
 -- ---- what a field says, by its first byte
 
-pub empty_number : (s : List ℕ) → length s ≡ 0 → number_of s ≡ Refused
+pub empty_number : (s : List ℕ) → length s ≡ 0 → number_of s ≡ None
 unfolding number_of when◌then◌else◌
 empty_number s e = rw (eq-eqb (length s) 0 e)
 
 module _ (s : List ℕ) (some : length s ≡ 0 → ⊥) where
-  pub zero_number : leading_zero s ≡ true → number_of s ≡ Refused
+  pub zero_number : leading_zero s ≡ true → number_of s ≡ None
   unfolding number_of when◌then◌else◌
   zero_number e = rw (ne_eqb (length s) 0 some, e)
 
@@ -118,7 +119,7 @@ pub record Spells (n : ℕ) (field : List ℕ) : Type 0 where
   pub value : value_from 0 field ≡ n
   pub plain : 1 < length field → 48 < get_or field 0 0
 
-pub spells_number : {n : ℕ} {s : List ℕ} → Spells n s → n ≤ largest → number_of s ≡ Value n
+pub spells_number : {n : ℕ} {s : List ℕ} → Spells n s → n ≤ largest → number_of s ≡ Some n
 unfolding leading_zero
 spells_number {n} {s} p h =
     let q = p.some in
@@ -129,7 +130,7 @@ spells_number {n} {s} p h =
     go (no l) = rw (le-ltb 1 (length s) (omega arith)) (and-false (eqb (get_or s 0 0) 48))
 
 -- the tests that led to a number
-tests : (e z d l : Bool) (v n : ℕ) → (when e || z then Refused else when d && l then Value v else Refused) ≡ Value n
+tests : (e z d l : Bool) (v n : ℕ) → (when e || z then None else then_some (d && l) v) ≡ Some n
     → (e ≡ false) × (z ≡ false) × (d ≡ true) × (l ≡ true) × (v ≡ n)
 unfolding when◌then◌else◌
 tests false false true true v n e = (refl, refl, refl, refl, (cc))
@@ -144,7 +145,7 @@ no_zero s d z h =
     let n = eqb-false (get_or s 0 0) 48 (sym (and_one (eqb (get_or s 0 0) 48)) ∙ rw (lt-ltb 1 (length s) h) at z) in
     omega (arith, first_digit s d (omega arith), n)
 
-pub number_spells : (s : List ℕ) (n : ℕ) → number_of s ≡ Value n → Spells n s × (n ≤ largest)
+pub number_spells : (s : List ℕ) (n : ℕ) → number_of s ≡ Some n → Spells n s × (n ≤ largest)
 unfolding number_of digits_number
 number_spells s n e =
     let t = tests (eqb (length s) 0) (leading_zero s) (all_digits s) (leb (value_from 0 s) largest) (value_from 0 s) n e in (

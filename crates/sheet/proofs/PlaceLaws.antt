@@ -16,11 +16,10 @@ use Rattle.sheet.specs.Lines.{longest, line, well_sized, text_of, first_line, li
 use Rattle.sheet.specs.Number.{largest, is_digit, all_digits, value_from, digits_number, leading_zero, number_of}
 use Rattle.sheet.specs.WordField.{word_of}
 use Rattle.sheet.specs.Grammar.{letter_m, letter_i, letter_s, letter_of, is_kind, number_in, word_in, with_value, motor_from, input_from, scan_from, motor_of, input_of, scan_of, request_of, taken_at, next_at}
-use Rattle.sheet.specs.Places.{is_at, is_digit_at, begins_with, ends_line, SaidAt}
-use Rattle.sheet.specs.declared.Number.TheVariants.{Value}
+use Rattle.sheet.specs.Places.{is_at, is_digit_at, begins_with, ends_line, SaidAt, Read}
+use Rattle.std.specs.Prelude.{Option, Some, None}
 use Rattle.sheet.specs.declared.Line.TheVariants.{Until}
 use Rattle.sheet.specs.declared.Request.TheVariants.{Motor, Input, Scan}
-use Rattle.sheet.specs.declared.Next.TheVariants.{Taken}
 use Rattle.sheet.proofs.SplitLaws.{Free, free_none, free_more, split_joined, free_joined}
 use Rattle.sheet.proofs.LineLaws.{lines_part}
 use Rattle.sheet.proofs.NumberLaws.{digit_range, all_snoc, value_more, first_digit, spells_number}
@@ -134,6 +133,11 @@ module _ (file : List ℕ) (at : ℕ) where
 pub number_said : {file : List ℕ} {at value end : ℕ} → SaidAt number_of file at value end → SaidAt word_of file at value end
 number_said p = record { within = p.within; says = number_word _ _ p.says }
 
+pub number_read : (file : List ℕ) (at : ℕ) (r : Option (ℕ × ℕ)) → Read number_of file at r → Read word_of file at r
+unfolding Read
+number_read file at None p = tt
+number_read file at (Some r) p = number_said p
+
 -- the field that says it, and what follows
 pub record Parted (file : List ℕ) (at end : ℕ) : Type 0 where
   pub further : at < end
@@ -192,24 +196,24 @@ module _ (file l : List ℕ) (at end : ℕ) (parts : drop at file ≡ l ++ drop 
   unfolding between
   line_between = rw parts (take_at l (drop end file) (end - at) size)
 
-  line_next : index_of LF l ≡ length l → next_at file at ≡ Taken (request_of l) (end + 1)
+  line_next : index_of LF l ≡ length l → next_at file at ≡ Some (request_of l, end + 1)
   unfolding next_at taken_at
   line_next free = rw (line_until free, line_between)
 
 -- ---- the requests of the three kinds of lines
 
-pub scan_request : (d : List ℕ) (value : ℕ) → Free comma ((letter_s ∷ []) ∷ d ∷ []) → number_of d ≡ Value value
+pub scan_request : (d : List ℕ) (value : ℕ) → Free comma ((letter_s ∷ []) ∷ d ∷ []) → number_of d ≡ Some value
     → request_of (joined comma ((letter_s ∷ []) ∷ d ∷ [])) ≡ Scan value
 unfolding request_of is_kind letter_of field_of field_count scan_of scan_from number_in with_value when◌then◌else◌
 scan_request d value f e = rw (split_joined f, e)
 
-pub input_request : (d g : List ℕ) (number word : ℕ) → Free comma ((letter_i ∷ []) ∷ d ∷ g ∷ []) → number_of d ≡ Value number
-    → word_of g ≡ Value word → request_of (joined comma ((letter_i ∷ []) ∷ d ∷ g ∷ [])) ≡ Input number word
+pub input_request : (d g : List ℕ) (number word : ℕ) → Free comma ((letter_i ∷ []) ∷ d ∷ g ∷ []) → number_of d ≡ Some number
+    → word_of g ≡ Some word → request_of (joined comma ((letter_i ∷ []) ∷ d ∷ g ∷ [])) ≡ Input number word
 unfolding request_of is_kind letter_of field_of field_count input_of input_from number_in word_in with_value when◌then◌else◌
 input_request d g number word f e h = rw (split_joined f, e, h)
 
-pub motor_request : (a b c d e : List ℕ) (number ops1 ops2 w u : ℕ) → Free comma ((letter_m ∷ []) ∷ a ∷ b ∷ c ∷ d ∷ e ∷ []) → number_of a ≡ Value number
-    → word_of b ≡ Value ops1 → word_of c ≡ Value ops2 → number_of d ≡ Value w → number_of e ≡ Value u
+pub motor_request : (a b c d e : List ℕ) (number ops1 ops2 w u : ℕ) → Free comma ((letter_m ∷ []) ∷ a ∷ b ∷ c ∷ d ∷ e ∷ []) → number_of a ≡ Some number
+    → word_of b ≡ Some ops1 → word_of c ≡ Some ops2 → number_of d ≡ Some w → number_of e ≡ Some u
     → request_of (joined comma ((letter_m ∷ []) ∷ a ∷ b ∷ c ∷ d ∷ e ∷ [])) ≡ Motor number ops1 ops2 w u
 unfolding request_of is_kind letter_of field_of field_count motor_of motor_from number_in word_in with_value when◌then◌else◌
 motor_request a b c d e number ops1 ops2 w u f g h i j k = rw (split_joined f, g, h, i, j, k)
@@ -219,7 +223,7 @@ comma_no_lf e = omega arith
 
 module _ (file : List ℕ) (at : ℕ) where
   pub scan_next : {value end : ℕ} → begins_with file at letter_s ≡ true → SaidAt number_of file (at + 2) value end → ends_line file at end ≡ true
-      → next_at file at ≡ Taken (Scan value) (end + 1)
+      → next_at file at ≡ Some (Scan value, end + 1)
   unfolding joined index_of when◌then◌else◌
   scan_next {value} {end} b n e =
       let d : List ℕ = between (at + 2) end file in
@@ -235,7 +239,7 @@ module _ (file : List ℕ) (at : ℕ) where
 
   pub input_next : {number parting word end : ℕ} → begins_with file at letter_i ≡ true → SaidAt number_of file (at + 2) number parting
       → is_at file parting comma ≡ true → SaidAt word_of file (parting + 1) word end → ends_line file at end ≡ true
-      → next_at file at ≡ Taken (Input number word) (end + 1)
+      → next_at file at ≡ Some (Input number word, end + 1)
   unfolding joined index_of when◌then◌else◌
   input_next {number} {parting} {word} {end} b n c m e =
       let d : List ℕ = between (at + 2) parting file in

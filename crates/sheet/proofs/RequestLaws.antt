@@ -15,12 +15,11 @@ use Rattle.sheet.specs.Lines.{Text, faulty, lines_of}
 use Rattle.words.specs.Word.{when◌then◌else◌}
 use Rattle.words.proofs.Laws.{and_true}
 use Rattle.sheet.specs.Grammar.{letter_m, letter_i, letter_s, letter_of, is_kind, number_in, word_in, with_value, motor_from, input_from, scan_from, motor_of, input_of, scan_of, request_of, text_request, requests_of, taken_at, next_at}
-use Rattle.sheet.specs.declared.Number.{Number}
-use Rattle.sheet.specs.declared.Number.TheVariants.{Value, Refused as NoNumber}
+use Rattle.std.specs.Prelude.{Option, Some, None}
+use Rattle.std.proofs.lemmas.Option.{none-some, some_pair_parts}
 use Rattle.sheet.specs.declared.Line.{Line}
 use Rattle.sheet.specs.declared.Request.{Request}
 use Rattle.sheet.specs.declared.Request.TheVariants.{Motor, Input, Scan, Refused}
-use Rattle.sheet.specs.declared.Next.TheVariants.{Taken, Done}
 use Rattle.sheet.proofs.SplitLaws.{first_field}
 use Rattle.sheet.proofs.LineLaws.{lines_end, Whole, Stands, whole, refused, ended, stands}
 
@@ -60,62 +59,60 @@ module _ {file : List ℕ} {at : ℕ} where
         within = omega arith;
       }
 
-  step_of : {l : Line} (request : Request) (next : ℕ) → Stands file at l → taken_at file at l ≡ Taken request next → Step file at request next
+  step_of : {l : Line} (request : Request) (next : ℕ) → Stands file at l → taken_at file at l ≡ Some (request, next) → Step file at request next
   unfolding taken_at
   step_of request next (whole {end = end} w) e =
-      let p : request_of (between at end file) ≡ request = cc in
-      let q : end + 1 ≡ next = cc in
-      rw (p, q) at (whole_step end w)
+      let p = some_pair_parts _ _ _ _ e in
+      rw (p.0, p.1) at (whole_step end w)
   step_of request next (refused h g) e =
-      let p : Refused ≡ request = cc in
-      let q : length file ≡ next = cc in
-      rw (p, q) at (refused_step h g)
-  step_of request next (ended h) e = let z : ◌≡◌ {A = ℕ} 0 1 = cc in absurd (omega arith)
+      let p = some_pair_parts _ _ _ _ e in
+      rw (p.0, p.1) at (refused_step h g)
+  step_of request next (ended h) e = absurd (none-some _ e)
 
-  done_of : {l : Line} → Stands file at l → taken_at file at l ≡ Done → length file ≤ at
+  done_of : {l : Line} → Stands file at l → taken_at file at l ≡ None → length file ≤ at
   unfolding taken_at
-  done_of (whole w) e = let z : ◌≡◌ {A = ℕ} 0 1 = cc in absurd (omega arith)
-  done_of (refused h g) e = let z : ◌≡◌ {A = ℕ} 0 1 = cc in absurd (omega arith)
+  done_of (whole w) e = absurd (none-some _ (sym e))
+  done_of (refused h g) e = absurd (none-some _ (sym e))
   done_of (ended h) e = h
 
-pub taken : (file : List ℕ) (at : ℕ) (request : Request) (next : ℕ) → next_at file at ≡ Taken request next → Step file at request next
+pub taken : (file : List ℕ) (at : ℕ) (request : Request) (next : ℕ) → next_at file at ≡ Some (request, next) → Step file at request next
 unfolding next_at
 taken file at request next e = step_of request next (stands file at) e
 
-pub done : (file : List ℕ) (at : ℕ) → next_at file at ≡ Done → length file ≤ at
+pub done : (file : List ℕ) (at : ℕ) → next_at file at ≡ None → length file ≤ at
 unfolding next_at
 done file at e = done_of (stands file at) e
 
 -- ---- a request that is not refused says what its line has: its kind, and the number or word in each field
 
 pub data Says (l : List ℕ) : Request → Type 0 where
-  motor : {number ops1 ops2 w u : ℕ} → is_kind letter_m 6 l ≡ true → number_in l 1 ≡ Value number → word_in l 2 ≡ Value ops1
-      → word_in l 3 ≡ Value ops2 → number_in l 4 ≡ Value w → number_in l 5 ≡ Value u → Says l (Motor number ops1 ops2 w u)
-  input : {number word : ℕ} → is_kind letter_i 3 l ≡ true → number_in l 1 ≡ Value number → word_in l 2 ≡ Value word → Says l (Input number word)
-  scan : {period : ℕ} → is_kind letter_s 2 l ≡ true → number_in l 1 ≡ Value period → Says l (Scan period)
+  motor : {number ops1 ops2 w u : ℕ} → is_kind letter_m 6 l ≡ true → number_in l 1 ≡ Some number → word_in l 2 ≡ Some ops1
+      → word_in l 3 ≡ Some ops2 → number_in l 4 ≡ Some w → number_in l 5 ≡ Some u → Says l (Motor number ops1 ops2 w u)
+  input : {number word : ℕ} → is_kind letter_i 3 l ≡ true → number_in l 1 ≡ Some number → word_in l 2 ≡ Some word → Says l (Input number word)
+  scan : {period : ℕ} → is_kind letter_s 2 l ≡ true → number_in l 1 ≡ Some period → Says l (Scan period)
   nothing : Says l Refused
 
 pub says : (l : List ℕ) → Says l (request_of l)
 unfolding request_of motor_of input_of scan_of motor_from input_from scan_from with_value when◌then◌else◌
 says l = go (is_kind letter_m 6 l) refl (is_kind letter_i 3 l) refl (is_kind letter_s 2 l) refl
   where
-    go_motor : is_kind letter_m 6 l ≡ true → (a : Number) → number_in l 1 ≡ a → (b : Number) → word_in l 2 ≡ b → (c : Number) → word_in l 3 ≡ c
-        → (d : Number) → number_in l 4 ≡ d → (e : Number) → number_in l 5 ≡ e → Says l (motor_from a b c d e)
-    go_motor k (Value a) f (Value b) g (Value c) h (Value d) i (Value e) j = motor k f g h i j
-    go_motor k NoNumber f b g c h d i e j = nothing
-    go_motor k (Value a) f NoNumber g c h d i e j = nothing
-    go_motor k (Value a) f (Value b) g NoNumber h d i e j = nothing
-    go_motor k (Value a) f (Value b) g (Value c) h NoNumber i e j = nothing
-    go_motor k (Value a) f (Value b) g (Value c) h (Value d) i NoNumber j = nothing
+    go_motor : is_kind letter_m 6 l ≡ true → (a : Option ℕ) → number_in l 1 ≡ a → (b : Option ℕ) → word_in l 2 ≡ b → (c : Option ℕ) → word_in l 3 ≡ c
+        → (d : Option ℕ) → number_in l 4 ≡ d → (e : Option ℕ) → number_in l 5 ≡ e → Says l (motor_from a b c d e)
+    go_motor k (Some a) f (Some b) g (Some c) h (Some d) i (Some e) j = motor k f g h i j
+    go_motor k None f b g c h d i e j = nothing
+    go_motor k (Some a) f None g c h d i e j = nothing
+    go_motor k (Some a) f (Some b) g None h d i e j = nothing
+    go_motor k (Some a) f (Some b) g (Some c) h None i e j = nothing
+    go_motor k (Some a) f (Some b) g (Some c) h (Some d) i None j = nothing
 
-    go_input : is_kind letter_i 3 l ≡ true → (a : Number) → number_in l 1 ≡ a → (b : Number) → word_in l 2 ≡ b → Says l (input_from a b)
-    go_input k (Value a) f (Value b) g = input k f g
-    go_input k NoNumber f b g = nothing
-    go_input k (Value a) f NoNumber g = nothing
+    go_input : is_kind letter_i 3 l ≡ true → (a : Option ℕ) → number_in l 1 ≡ a → (b : Option ℕ) → word_in l 2 ≡ b → Says l (input_from a b)
+    go_input k (Some a) f (Some b) g = input k f g
+    go_input k None f b g = nothing
+    go_input k (Some a) f None g = nothing
 
-    go_scan : is_kind letter_s 2 l ≡ true → (a : Number) → number_in l 1 ≡ a → Says l (scan_from a)
-    go_scan k (Value a) f = scan k f
-    go_scan k NoNumber f = nothing
+    go_scan : is_kind letter_s 2 l ≡ true → (a : Option ℕ) → number_in l 1 ≡ a → Says l (scan_from a)
+    go_scan k (Some a) f = scan k f
+    go_scan k None f = nothing
 
     go : (x : Bool) → is_kind letter_m 6 l ≡ x → (y : Bool) → is_kind letter_i 3 l ≡ y → (z : Bool) → is_kind letter_s 2 l ≡ z
         → Says l (when x then motor_of l else when y then input_of l else when z then scan_of l else Refused)
@@ -137,7 +134,7 @@ first_byte l letter e n = go (eqb (length (field_of l 0)) 1) refl e
         sym (get_or-take (index_of comma l) l 0 0 some) ∙ ap (λ (s : List ℕ). get_or s 0 0) (first_field l) ∙ g
     go false f g = absurd (n (sym g))
 
-pub input_begins : (file : List ℕ) (at number word next : ℕ) → next_at file at ≡ Taken (Input number word) next
+pub input_begins : (file : List ℕ) (at number word next : ℕ) → next_at file at ≡ Some (Input number word, next)
     → (at < length file) × (get_or file at 0 ≡ letter_i)
 unfolding next_at taken_at is_kind between
 input_begins file at number word next e = go (stands file at) e
@@ -148,13 +145,13 @@ input_begins file at number word next e = go (stands file at) e
     kind l _ (scan k f) q = let z : ◌≡◌ {A = ℕ} 0 1 = cc in absurd (omega arith)
     kind l _ nothing q = let z : ◌≡◌ {A = ℕ} 0 1 = cc in absurd (omega arith)
 
-    go : {l : Line} → Stands file at l → taken_at file at l ≡ Taken (Input number word) next → (at < length file) × (get_or file at 0 ≡ letter_i)
+    go : {l : Line} → Stands file at l → taken_at file at l ≡ Some (Input number word, next) → (at < length file) × (get_or file at 0 ≡ letter_i)
     go (whole {end = end} w) q =
-        let p : request_of (between at end file) ≡ Input number word = cc in
+        let p = (some_pair_parts _ _ _ _ q).0 in
         let k = (and_true _ _ (kind (between at end file) _ (says (between at end file)) p)).0 in
         let b = first_byte (between at end file) letter_i (eqb-true _ _ k) (λ z. omega arith) in
         let some = w.some in
         let ends = w.ends in
         (omega arith, ap (λ (i : ℕ). get_or file i 0) (sym (add-zero at)) ∙ sym (get_or-drop at file 0 0) ∙ sym (get_or-take (end - at) (drop at file) 0 0 (omega arith)) ∙ b)
-    go (refused h g) q = let z : ◌≡◌ {A = Request} Refused (Input number word) = cc in let y : ◌≡◌ {A = ℕ} 0 1 = cc in absurd (omega arith)
-    go (ended h) q = let z : ◌≡◌ {A = ℕ} 0 1 = cc in absurd (omega arith)
+    go (refused h g) q = let z = (some_pair_parts _ _ _ _ q).0 in let y : ◌≡◌ {A = ℕ} 0 1 = cc in absurd (omega arith)
+    go (ended h) q = absurd (none-some _ q)

@@ -12,7 +12,7 @@ use Rattle.sheet.specs.Grammar.{request_of, requests_of}
 use Rattle.sheet.specs.Opened.{opened}
 use Rattle.sheet.proofs.WordLaws.{each_byte, marks}
 use Rattle.sheet.specs.declared.Line.TheVariants.{Until, Refused as Faulty}
-use Rattle.sheet.specs.declared.Number.TheVariants.{Value, Refused as NoNumber}
+use Rattle.std.specs.Prelude.{Some, None}
 use Rattle.sheet.specs.declared.Request.TheVariants.{Motor, Input, Scan, Refused}
 
 -- M,1,193,0,500,300, I,1,32, S,100, I,1,4128, S,100, I,1,16, S,100
@@ -55,35 +55,35 @@ unfolding opened
 too_long = refl
 
 -- 4294967295, 4294967296 and 24 digits; 0, 00 and 01; +1 and an empty field
-largest_number : number_of (52 ∷ 50 ∷ 57 ∷ 52 ∷ 57 ∷ 54 ∷ 55 ∷ 50 ∷ 57 ∷ 53 ∷ []) ≡ Value 4294967295
+largest_number : number_of (52 ∷ 50 ∷ 57 ∷ 52 ∷ 57 ∷ 54 ∷ 55 ∷ 50 ∷ 57 ∷ 53 ∷ []) ≡ Some 4294967295
 unfolding opened
 largest_number = refl
 
-one_more : number_of (52 ∷ 50 ∷ 57 ∷ 52 ∷ 57 ∷ 54 ∷ 55 ∷ 50 ∷ 57 ∷ 54 ∷ []) ≡ NoNumber
+one_more : number_of (52 ∷ 50 ∷ 57 ∷ 52 ∷ 57 ∷ 54 ∷ 55 ∷ 50 ∷ 57 ∷ 54 ∷ []) ≡ None
 unfolding opened
 one_more = refl
 
-many_digits : number_of (57 ∷ 57 ∷ 57 ∷ 57 ∷ 57 ∷ 57 ∷ 57 ∷ 57 ∷ 57 ∷ 57 ∷ 57 ∷ 57 ∷ 57 ∷ 57 ∷ 57 ∷ 57 ∷ 57 ∷ 57 ∷ 57 ∷ 57 ∷ 57 ∷ 57 ∷ 57 ∷ 57 ∷ []) ≡ NoNumber
+many_digits : number_of (57 ∷ 57 ∷ 57 ∷ 57 ∷ 57 ∷ 57 ∷ 57 ∷ 57 ∷ 57 ∷ 57 ∷ 57 ∷ 57 ∷ 57 ∷ 57 ∷ 57 ∷ 57 ∷ 57 ∷ 57 ∷ 57 ∷ 57 ∷ 57 ∷ 57 ∷ 57 ∷ 57 ∷ []) ≡ None
 unfolding opened
 many_digits = refl
 
-zero_itself : number_of (48 ∷ []) ≡ Value 0
+zero_itself : number_of (48 ∷ []) ≡ Some 0
 unfolding opened
 zero_itself = refl
 
-two_zeros : number_of (48 ∷ 48 ∷ []) ≡ NoNumber
+two_zeros : number_of (48 ∷ 48 ∷ []) ≡ None
 unfolding opened
 two_zeros = refl
 
-leading_zero_lem : number_of (48 ∷ 49 ∷ []) ≡ NoNumber
+leading_zero_lem : number_of (48 ∷ 49 ∷ []) ≡ None
 unfolding opened
 leading_zero_lem = refl
 
-sign : number_of (43 ∷ 49 ∷ []) ≡ NoNumber
+sign : number_of (43 ∷ 49 ∷ []) ≡ None
 unfolding opened
 sign = refl
 
-no_digit : number_of ([]) ≡ NoNumber
+no_digit : number_of ([]) ≡ None
 unfolding opened
 no_digit = refl
 
@@ -105,86 +105,86 @@ unfolding opened
 two_letters = refl
 
 -- ---- words: 0x0, 0x1F, 0xABCDEF, 0xFFFFFFFF, and 193 in all eight digits; 193 and 0 without 0x
-hex_zero : word_of (48 ∷ 120 ∷ 48 ∷ []) ≡ Value 0
+hex_zero : word_of (48 ∷ 120 ∷ 48 ∷ []) ≡ Some 0
 unfolding opened
 hex_zero = refl
 
-hex_two : word_of (48 ∷ 120 ∷ 49 ∷ 70 ∷ []) ≡ Value 31
+hex_two : word_of (48 ∷ 120 ∷ 49 ∷ 70 ∷ []) ≡ Some 31
 unfolding opened
 hex_two = refl
 
-hex_letters : word_of (48 ∷ 120 ∷ 65 ∷ 66 ∷ 67 ∷ 68 ∷ 69 ∷ 70 ∷ []) ≡ Value 11259375
+hex_letters : word_of (48 ∷ 120 ∷ 65 ∷ 66 ∷ 67 ∷ 68 ∷ 69 ∷ 70 ∷ []) ≡ Some 11259375
 unfolding opened
 hex_letters = refl
 
-hex_largest : word_of (48 ∷ 120 ∷ 70 ∷ 70 ∷ 70 ∷ 70 ∷ 70 ∷ 70 ∷ 70 ∷ 70 ∷ []) ≡ Value 4294967295
+hex_largest : word_of (48 ∷ 120 ∷ 70 ∷ 70 ∷ 70 ∷ 70 ∷ 70 ∷ 70 ∷ 70 ∷ 70 ∷ []) ≡ Some 4294967295
 unfolding opened
 hex_largest = refl
 
-hex_zeros : word_of (48 ∷ 120 ∷ 48 ∷ 48 ∷ 48 ∷ 48 ∷ 48 ∷ 48 ∷ 67 ∷ 49 ∷ []) ≡ Value 193
+hex_zeros : word_of (48 ∷ 120 ∷ 48 ∷ 48 ∷ 48 ∷ 48 ∷ 48 ∷ 48 ∷ 67 ∷ 49 ∷ []) ≡ Some 193
 unfolding opened
 hex_zeros = refl
 
-word_decimal : word_of (49 ∷ 57 ∷ 51 ∷ []) ≡ Value 193
+word_decimal : word_of (49 ∷ 57 ∷ 51 ∷ []) ≡ Some 193
 unfolding opened
 word_decimal = refl
 
-word_zero : word_of (48 ∷ []) ≡ Value 0
+word_zero : word_of (48 ∷ []) ≡ Some 0
 unfolding opened
 word_zero = refl
 
 -- nine digits, none, a small letter, a large X
-hex_nine : word_of (48 ∷ 120 ∷ 48 ∷ 48 ∷ 48 ∷ 48 ∷ 48 ∷ 48 ∷ 48 ∷ 67 ∷ 49 ∷ []) ≡ NoNumber
+hex_nine : word_of (48 ∷ 120 ∷ 48 ∷ 48 ∷ 48 ∷ 48 ∷ 48 ∷ 48 ∷ 48 ∷ 67 ∷ 49 ∷ []) ≡ None
 unfolding opened
 hex_nine = refl
 
-hex_none : word_of (48 ∷ 120 ∷ []) ≡ NoNumber
+hex_none : word_of (48 ∷ 120 ∷ []) ≡ None
 unfolding opened
 hex_none = refl
 
-hex_small : word_of (48 ∷ 120 ∷ 99 ∷ 49 ∷ []) ≡ NoNumber
+hex_small : word_of (48 ∷ 120 ∷ 99 ∷ 49 ∷ []) ≡ None
 unfolding opened
 hex_small = refl
 
-hex_large_x : word_of (48 ∷ 88 ∷ 67 ∷ 49 ∷ []) ≡ NoNumber
+hex_large_x : word_of (48 ∷ 88 ∷ 67 ∷ 49 ∷ []) ≡ None
 unfolding opened
 hex_large_x = refl
 
 -- the bytes beside A to F and 0 to 9: 0x@, 0xG, 0x/ and 0x:
-hex_at : word_of (48 ∷ 120 ∷ 64 ∷ []) ≡ NoNumber
+hex_at : word_of (48 ∷ 120 ∷ 64 ∷ []) ≡ None
 unfolding opened
 hex_at = refl
 
-hex_g : word_of (48 ∷ 120 ∷ 71 ∷ []) ≡ NoNumber
+hex_g : word_of (48 ∷ 120 ∷ 71 ∷ []) ≡ None
 unfolding opened
 hex_g = refl
 
-hex_slash : word_of (48 ∷ 120 ∷ 47 ∷ []) ≡ NoNumber
+hex_slash : word_of (48 ∷ 120 ∷ 47 ∷ []) ≡ None
 unfolding opened
 hex_slash = refl
 
-hex_colon : word_of (48 ∷ 120 ∷ 58 ∷ []) ≡ NoNumber
+hex_colon : word_of (48 ∷ 120 ∷ 58 ∷ []) ≡ None
 unfolding opened
 hex_colon = refl
 
 -- +0xC1, 0x+1, a blank behind, 0x0xC1 and 00xC1
-hex_sign : word_of (43 ∷ 48 ∷ 120 ∷ 67 ∷ 49 ∷ []) ≡ NoNumber
+hex_sign : word_of (43 ∷ 48 ∷ 120 ∷ 67 ∷ 49 ∷ []) ≡ None
 unfolding opened
 hex_sign = refl
 
-hex_sign_inside : word_of (48 ∷ 120 ∷ 43 ∷ 49 ∷ []) ≡ NoNumber
+hex_sign_inside : word_of (48 ∷ 120 ∷ 43 ∷ 49 ∷ []) ≡ None
 unfolding opened
 hex_sign_inside = refl
 
-hex_blank : word_of (48 ∷ 120 ∷ 67 ∷ 49 ∷ 32 ∷ []) ≡ NoNumber
+hex_blank : word_of (48 ∷ 120 ∷ 67 ∷ 49 ∷ 32 ∷ []) ≡ None
 unfolding opened
 hex_blank = refl
 
-hex_twice : word_of (48 ∷ 120 ∷ 48 ∷ 120 ∷ 67 ∷ 49 ∷ []) ≡ NoNumber
+hex_twice : word_of (48 ∷ 120 ∷ 48 ∷ 120 ∷ 67 ∷ 49 ∷ []) ≡ None
 unfolding opened
 hex_twice = refl
 
-hex_zero_first : word_of (48 ∷ 48 ∷ 120 ∷ 67 ∷ 49 ∷ []) ≡ NoNumber
+hex_zero_first : word_of (48 ∷ 48 ∷ 120 ∷ 67 ∷ 49 ∷ []) ≡ None
 unfolding opened
 hex_zero_first = refl
 

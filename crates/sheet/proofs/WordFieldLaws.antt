@@ -13,7 +13,8 @@ use Rattle.words.proofs.Laws.{and_true, both_le}
 use Rattle.sheet.specs.Split.{index_of}
 use Rattle.sheet.specs.Number.{is_digit, number_of}
 use Rattle.sheet.specs.WordField.{is_hex_digit, hex_digit, all_hex_digits, hex_from, is_hex_count, hex_number, has0x, word_of}
-use Rattle.sheet.specs.declared.Number.TheVariants.{Value, Refused}
+use Rattle.std.specs.Prelude.{Some}
+use Rattle.std.specs.Bool.{then_some}
 use Rattle.sheet.proofs.NumberLaws.{number_spells, digits_free}
 
 -- ---- digits
@@ -48,7 +49,7 @@ hex_field s e = let w = and_true (eqb (get_or s 0 0) 48) (eqb (get_or s 1 0) 120
     go (x ∷ y ∷ s) a b = rw (a, b)
 
 -- a field that is a number does not begin so, and its word is that number
-pub number_no_0x : (s : List ℕ) (n : ℕ) → number_of s ≡ Value n → has0x s ≡ false
+pub number_no_0x : (s : List ℕ) (n : ℕ) → number_of s ≡ Some n → has0x s ≡ false
 number_no_0x s n e = go (has0x s) refl
   where
     go : (t : Bool) → has0x s ≡ t → has0x s ≡ false
@@ -58,7 +59,7 @@ number_no_0x s n e = go (has0x s) refl
         let l = (number_spells s n e).0.plain in
         absurd (omega (arith, ap (λ (t : List ℕ). get_or t 0 0) g, l (omega (arith, ap length g))))
 
-pub number_word : (s : List ℕ) (n : ℕ) → number_of s ≡ Value n → word_of s ≡ Value n
+pub number_word : (s : List ℕ) (n : ℕ) → number_of s ≡ Some n → word_of s ≡ Some n
 unfolding word_of when◌then◌else◌
 number_word s n e = rw (number_no_0x s n e) e
 
@@ -68,28 +69,28 @@ pub record HexSays (s : List ℕ) (n : ℕ) : Type 0 where
   pub digits : all_hex_digits s ≡ true
   pub value : hex_from 0 s ≡ n
 
-pub hex_says : (s : List ℕ) (n : ℕ) → hex_number s ≡ Value n → HexSays s n
+pub hex_says : (s : List ℕ) (n : ℕ) → hex_number s ≡ Some n → HexSays s n
 unfolding hex_number when◌then◌else◌
 hex_says s n e = go (is_hex_count (length s)) (all_hex_digits s) refl e
   where
-    go : (t d : Bool) → all_hex_digits s ≡ d → (when t && d then Value (hex_from 0 s) else Refused) ≡ Value n → HexSays s n
+    go : (t d : Bool) → all_hex_digits s ≡ d → then_some (t && d) (hex_from 0 s) ≡ Some n → HexSays s n
     go true true f e = record { digits = f; value = cc }
     go true false f e = let c : ◌≡◌ {A = ℕ} 0 1 = cc in absurd (omega arith)
     go false d f e = let c : ◌≡◌ {A = ℕ} 0 1 = cc in absurd (omega arith)
 
 data WordIs (s : List ℕ) (n : ℕ) : Type 0 where
-  decimal : number_of s ≡ Value n → WordIs s n
+  decimal : number_of s ≡ Some n → WordIs s n
   hex : s ≡ 48 ∷ 120 ∷ drop 2 s → HexSays (drop 2 s) n → WordIs s n
 
-word_is : (s : List ℕ) (n : ℕ) → word_of s ≡ Value n → WordIs s n
+word_is : (s : List ℕ) (n : ℕ) → word_of s ≡ Some n → WordIs s n
 unfolding word_of when◌then◌else◌
 word_is s n e = go (has0x s) refl e
   where
-    go : (t : Bool) → has0x s ≡ t → (when t then hex_number (drop 2 s) else number_of s) ≡ Value n → WordIs s n
+    go : (t : Bool) → has0x s ≡ t → (when t then hex_number (drop 2 s) else number_of s) ≡ Some n → WordIs s n
     go false f e = decimal e
     go true f e = hex (hex_field s f) (hex_says (drop 2 s) n e)
 
-pub word_some : (s : List ℕ) (n : ℕ) → word_of s ≡ Value n → 0 < length s
+pub word_some : (s : List ℕ) (n : ℕ) → word_of s ≡ Some n → 0 < length s
 word_some s n e = go (word_is s n e)
   where
     go : WordIs s n → 0 < length s
@@ -109,7 +110,7 @@ hex_free b (x ∷ s) f e =
     let w = and_true (is_hex_digit x) (all_hex_digits s) e in
     rw (ne_eqb x b (λ g. false≢true (sym f ∙ ap is_hex_digit (sym g) ∙ w.0))) (ap suc (hex_free b s f w.1))
 
-pub word_free : (b : ℕ) (s : List ℕ) (n : ℕ) → b < 48 → word_of s ≡ Value n → index_of b s ≡ length s
+pub word_free : (b : ℕ) (s : List ℕ) (n : ℕ) → b < 48 → word_of s ≡ Some n → index_of b s ≡ length s
 unfolding index_of is_digit when◌then◌else◌
 word_free b s n h e = go (word_is s n e)
   where

@@ -1,5 +1,5 @@
 -- The request that a line makes, and the requests of a whole file: the paper's "The bench program's file", and its refusal 5.
-use Rattle.std.specs.Prelude.{ℕ, ◌+◌, Bool, ◌&&◌, List, [], ◌∷◌, map, length, get_or, eqb}
+use Rattle.std.specs.Prelude.{ℕ, ◌+◌, Bool, ◌&&◌, List, [], ◌∷◌, map, length, get_or, eqb, Option, Some, None}
 use Rattle.words.specs.Word.{when◌then◌else◌}
 use Rattle.sheet.specs.Split.{field_of, field_count, between}
 use Rattle.sheet.specs.Lines.{Text, line, faulty, lines_of, line_at}
@@ -7,12 +7,8 @@ use Rattle.sheet.specs.Number.{number_of}
 use Rattle.sheet.specs.WordField.{word_of}
 use Rattle.sheet.specs.declared.Line.{Line}
 use Rattle.sheet.specs.declared.Line.TheVariants.{Until, Refused as Faulty, End}
-use Rattle.sheet.specs.declared.Number.{Number}
-use Rattle.sheet.specs.declared.Number.TheVariants.{Value, Refused as NoNumber}
 use Rattle.sheet.specs.declared.Request.{Request}
 use Rattle.sheet.specs.declared.Request.TheVariants.{Motor, Input, Scan, Refused}
-use Rattle.sheet.specs.declared.Next.{Next}
-use Rattle.sheet.specs.declared.Next.TheVariants.{Taken, Done}
 
 -- The first field of a line of each kind: M, I, S
 abbrev pub letter_m : ℕ
@@ -32,26 +28,26 @@ unfoldable pub is_kind : ℕ → ℕ → List ℕ → Bool
 is_kind letter count l = eqb (letter_of (field_of l 0)) letter && eqb (field_count l) count
 
 -- The number that a field of a line says, and the word
-unfoldable pub number_in : List ℕ → ℕ → Number
+unfoldable pub number_in : List ℕ → ℕ → Option ℕ
 number_in l k = number_of (field_of l k)
 
-unfoldable pub word_in : List ℕ → ℕ → Number
+unfoldable pub word_in : List ℕ → ℕ → Option ℕ
 word_in l k = word_of (field_of l k)
 
 -- What a number makes; "a field that is not a number" makes a refusal
-unfoldable pub with_value : Number → (ℕ → Request) → Request
-with_value (Value n) make = make n
-with_value NoNumber make = Refused
+unfoldable pub with_value : Option ℕ → (ℕ → Request) → Request
+with_value (Some n) make = make n
+with_value None make = Refused
 
 -- The requests of the three kinds, by the numbers in their fields
-unfoldable pub motor_from : Number → Number → Number → Number → Number → Request
+unfoldable pub motor_from : Option ℕ → Option ℕ → Option ℕ → Option ℕ → Option ℕ → Request
 motor_from a b c d e =
     with_value a (λ number. with_value b (λ ops1. with_value c (λ ops2. with_value d (λ w. with_value e (λ u. Motor number ops1 ops2 w u)))))
 
-unfoldable pub input_from : Number → Number → Request
+unfoldable pub input_from : Option ℕ → Option ℕ → Request
 input_from a b = with_value a (λ number. with_value b (λ word. Input number word))
 
-unfoldable pub scan_from : Number → Request
+unfoldable pub scan_from : Option ℕ → Request
 scan_from a = with_value a (λ period. Scan period)
 
 -- `M,number,OPS_1,OPS_2,W,U`; OPS_1 and OPS_2 are words
@@ -84,12 +80,12 @@ requests_of file = map text_request (lines_of file)
 
 -- The request at a place of a file, and the place after its line. A line that is empty, too long or without LF is refused, and then "the
 -- program stops": the place after it is the file's end.
-unfoldable pub taken_at : List ℕ → ℕ → Line → Next
-taken_at file at (Until end) = Taken (request_of (between at end file)) (end + 1)
-taken_at file at Faulty = Taken Refused (length file)
-taken_at file at End = Done
+unfoldable pub taken_at : List ℕ → ℕ → Line → Option (Request × ℕ)
+taken_at file at (Until end) = Some (request_of (between at end file), end + 1)
+taken_at file at Faulty = Some (Refused, length file)
+taken_at file at End = None
 
-unfoldable pub next_at : List ℕ → ℕ → Next
+unfoldable pub next_at : List ℕ → ℕ → Option (Request × ℕ)
 next_at file at = taken_at file at (line_at file at)
 
 -- The paper's number for a refused line, and 0 for any other

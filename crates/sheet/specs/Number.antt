@@ -1,9 +1,8 @@
 -- The number that a field says: the paper's "Numbers have no sign and, but for 0 itself, no leading zero", and of its refusal 5 "a field
 -- that is not a number up to 4,294,967,295". "All numbers are decimal."
-use Rattle.std.specs.Prelude.{ℕ, ◌+◌, ◌-◌, ◌*◌, Bool, true, ◌&&◌, ◌||◌, List, [], ◌∷◌, length, get_or, eqb, leb, ltb}
+use Rattle.std.specs.Prelude.{ℕ, ◌+◌, ◌-◌, ◌*◌, Bool, true, ◌&&◌, ◌||◌, List, [], ◌∷◌, length, get_or, eqb, leb, ltb, Option, None}
+use Rattle.std.specs.Bool.{then_some}
 use Rattle.words.specs.Word.{when◌then◌else◌}
-use Rattle.sheet.specs.declared.Number.{Number}
-use Rattle.sheet.specs.declared.Number.TheVariants.{Value, Refused}
 
 -- The bytes 48 to 57 are the digits 0 to 9.
 unfoldable pub is_digit : ℕ → Bool
@@ -24,13 +23,13 @@ abbrev pub largest : ℕ
 largest = 4294967295
 
 -- The number that digits say, with any zeros in front
-unfoldable pub digits_number : List ℕ → Number
-digits_number field = when all_digits field && leb (value_from 0 field) largest then Value (value_from 0 field) else Refused
+unfoldable pub digits_number : List ℕ → Option ℕ
+digits_number field = then_some (all_digits field && leb (value_from 0 field) largest) (value_from 0 field)
 
 -- a 0 that other bytes follow
 unfoldable pub leading_zero : List ℕ → Bool
 leading_zero field = eqb (get_or field 0 0) 48 && ltb 1 (length field)
 
 -- A field's number; an empty field says none
-unfoldable pub number_of : List ℕ → Number
-number_of field = when eqb (length field) 0 || leading_zero field then Refused else digits_number field
+unfoldable pub number_of : List ℕ → Option ℕ
+number_of field = when eqb (length field) 0 || leading_zero field then None else digits_number field

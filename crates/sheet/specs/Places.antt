@@ -1,16 +1,13 @@
 -- Bytes and numbers where they stand in a file: what the functions promise that read a line once. The requests that they give are those
 -- of `next_at`; nothing here says more of the file.
-use Rattle.std.specs.Prelude.{ℕ, ◌+◌, ◌-◌, ◌≤◌, ◌≡◌, Bool, true, ◌&&◌, List, [], ◌∷◌, length, drop, get_or, eqb, leb, ltb}
+use Rattle.std.specs.Prelude.{ℕ, ◌+◌, ◌-◌, ◌≤◌, ◌≡◌, Bool, true, ◌&&◌, List, [], ◌∷◌, length, drop, get_or, eqb, leb, ltb, Option, Some, None}
+use Rattle.std.specs.Bool.{then_some}
 use Rattle.words.specs.Word.{when◌then◌else◌}
 use Rattle.sheet.specs.Split.{LF, comma, between}
 use Rattle.sheet.specs.Lines.{longest}
 use Rattle.sheet.specs.Number.{is_digit, number_of}
 use Rattle.sheet.specs.WordField.{is_hex_digit, hex_digit, hex_from, is_hex_count}
 use Rattle.sheet.specs.Grammar.{letter_i}
-use Rattle.sheet.specs.declared.Number.{Number}
-use Rattle.sheet.specs.declared.Number.TheVariants.{Value}
-use Rattle.sheet.specs.declared.quick.Figure.{Figure}
-use Rattle.sheet.specs.declared.quick.Figure.TheVariants.{Said, Nothing}
 
 -- A place has a byte, or a digit
 unfoldable pub is_at : List ℕ → ℕ → ℕ → Bool
@@ -29,10 +26,10 @@ hex_run [] = []
 hex_run (b ∷ bs) = when is_hex_digit b then b ∷ hex_run bs else []
 
 -- What those from a place on say, and the place after them, if they are as many as a word may have
-unfoldable pub hex_run_at : List ℕ → ℕ → Figure
+unfoldable pub hex_run_at : List ℕ → ℕ → Option (ℕ × ℕ)
 hex_run_at file at =
     let run = hex_run (drop at file) in
-    when is_hex_count (length run) then Said (hex_from 0 run) (at + length run) else Nothing
+    then_some (is_hex_count (length run)) (hex_from 0 run, at + length run)
 
 -- A letter, alone in its field, and a comma after it
 unfoldable pub begins_with : List ℕ → ℕ → ℕ → Bool
@@ -43,14 +40,14 @@ unfoldable pub ends_line : List ℕ → ℕ → ℕ → Bool
 ends_line file at end = is_at file end LF && leb (end - at) longest
 
 -- The bytes between two places say this value, by the meaning of a field: `number_of` or `word_of`
-pub record SaidAt (meaning : List ℕ → Number) (file : List ℕ) (at value end : ℕ) : Type 0 where
+pub record SaidAt (meaning : List ℕ → Option ℕ) (file : List ℕ) (at value end : ℕ) : Type 0 where
   pub within : end ≤ length file
-  pub says : meaning (between at end file) ≡ Value value
+  pub says : meaning (between at end file) ≡ Some value
 
 -- What a reading tells; nothing read tells nothing
-unfoldable pub Read : (List ℕ → Number) → List ℕ → ℕ → Figure → Type 0
-Read meaning file at (Said value end) = SaidAt meaning file at value end
-Read meaning file at Nothing = Unit {0}
+unfoldable pub Read : (List ℕ → Option ℕ) → List ℕ → ℕ → Option (ℕ × ℕ) → Type 0
+Read meaning file at (Some (value, end)) = SaidAt meaning file at value end
+Read meaning file at None = Unit {0}
 
 -- An I line as far as its number is read: up to the comma at `parting`
 pub record NumberRead (file : List ℕ) (at number parting : ℕ) : Type 0 where

@@ -1,11 +1,10 @@
 -- The word that a field says: OPS_1 and OPS_2 of an M line, and the word of an I line. Other fields are numbers (Number.antt). Change request 4:
 -- wiring sheets print a word "with 0x and one to eight digits, capital letters only"; "Leading zeros are allowed after 0x." A field without 0x is a
 -- number, as it was before.
-use Rattle.std.specs.Prelude.{ℕ, zero, suc, ◌+◌, ◌-◌, ◌*◌, ◌/◌, ◌%◌, Bool, true, ◌&&◌, ◌||◌, List, [], ◌∷◌, ◌++◌, length, drop, get_or, eqb, leb, ltb}
+use Rattle.std.specs.Prelude.{ℕ, zero, suc, ◌+◌, ◌-◌, ◌*◌, ◌/◌, ◌%◌, Bool, true, ◌&&◌, ◌||◌, List, [], ◌∷◌, ◌++◌, length, drop, get_or, eqb, leb, ltb, Option}
+use Rattle.std.specs.Bool.{then_some}
 use Rattle.words.specs.Word.{when◌then◌else◌}
 use Rattle.sheet.specs.Number.{is_digit, number_of}
-use Rattle.sheet.specs.declared.Number.{Number}
-use Rattle.sheet.specs.declared.Number.TheVariants.{Value, Refused}
 
 -- A hexadecimal digit: the bytes 48 to 57 are 0 to 9, and 65 to 70 are A to F
 unfoldable pub is_hex_digit : ℕ → Bool
@@ -29,15 +28,15 @@ unfoldable pub is_hex_count : ℕ → Bool
 is_hex_count n = leb 1 n && leb n 8
 
 -- What stands after 0x
-unfoldable pub hex_number : List ℕ → Number
-hex_number digits = when is_hex_count (length digits) && all_hex_digits digits then Value (hex_from 0 digits) else Refused
+unfoldable pub hex_number : List ℕ → Option ℕ
+hex_number digits = then_some (is_hex_count (length digits) && all_hex_digits digits) (hex_from 0 digits)
 
 -- "with 0x": the bytes 48 and 120 come first
 unfoldable pub has0x : List ℕ → Bool
 has0x field = eqb (get_or field 0 0) 48 && eqb (get_or field 1 0) 120
 
 -- A field's word
-unfoldable pub word_of : List ℕ → Number
+unfoldable pub word_of : List ℕ → Option ℕ
 word_of field = when has0x field then hex_number (drop 2 field) else number_of field
 
 -- The way back: the field that a wiring sheet prints for a word n, below 16 ^ k, in k digits. It says n, and no other field with 0x and k digits does

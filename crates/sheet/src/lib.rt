@@ -17,13 +17,6 @@ pub use quick::{is_at, next_request};
 pub use requests::{parse, refusal};
 pub use word_fields::read_word;
 
-// Where a search came to.
-#[derive(Clone, Copy)]
-pub enum Found {
-    At(usize),
-    Nothing,
-}
-
 // What stands at a place of a file.
 #[derive(Clone, Copy)]
 pub enum Line {
@@ -33,13 +26,6 @@ pub enum Line {
     Refused,
     // Nothing: the file ends here.
     End,
-}
-
-// The number that a field says.
-#[derive(Clone, Copy)]
-pub enum Number {
-    Value(u32),
-    Refused,
 }
 
 // What a line asks for.
@@ -63,11 +49,4 @@ pub enum Request {
         period: u32,
     },
     Refused,
-}
-
-// A file's next request, and the place to go on from.
-#[derive(Clone, Copy)]
-pub enum Next {
-    Taken(Request, usize),
-    Done,
 }

@@ -3,8 +3,8 @@ ghost use Rattle.std.specs.Prelude.{◌≡◌, ◌+◌, min, drop};
 ghost use Rattle.sheet.specs.Split.{index_of, between};
 ghost use Rattle.sheet.specs.Lines.{found_lf, well_sized, line_at};
 
+use crate::Line;
 use crate::search::lf_from;
-use crate::{Found, Line};
 
 pub const LF: u8 = b'\n';
 
@@ -26,15 +26,12 @@ pub fn index_from(s: &[u8], at: usize, b: u8) -> usize
 }
 
 // The first LF at or after a place.
-pub fn find_lf(file: &[u8], at: usize) -> Found
+#[tactic(auto, unfolding(crate::specs::Lines::found_lf))]
+pub fn find_lf(file: &[u8], at: usize) -> Option<usize>
     ensures { result ≡ found_lf file.now at }
 {
     let i = lf_from(file, at);
-    if i < file.len() {
-        Found::At(i)
-    } else {
-        Found::Nothing
-    }
+    (i < file.len()).then_some(i)
 }
 
 // The smaller of two numbers.
@@ -67,7 +64,7 @@ pub fn next_line(file: &[u8], at: usize) -> Line
     if file.len() <= at {
         return Line::End;
     }
-    let Found::At(end) = find_lf(file, at) else {
+    let Some(end) = find_lf(file, at) else {
         return Line::Refused;
     };
     if is_well_sized(end - at) {

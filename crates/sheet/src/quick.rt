@@ -1,25 +1,17 @@
 // The next request of a file. Lines of the two common kinds, I and S, are read once, where they stand in the file. What
 // cannot be read so is left to the reader of any line: a reading here may fail for any reason, but must not be wrong.
-ghost use Rattle.std.specs.Prelude.{◌≡◌, true, ◌≤◌};
+ghost use Rattle.std.specs.Prelude.{◌≡◌, true, ◌≤◌, IfSome, Some};
 ghost use Rattle.sheet.specs.Number.{number_of};
 ghost use Rattle.sheet.specs.WordField.{word_of};
 ghost use Rattle.sheet.specs.Grammar.{letter_i, letter_s, next_at};
-ghost use Rattle.sheet.specs.Places.{is_at, is_digit_at, begins_with, ends_line, Read, NumberRead};
+ghost use Rattle.sheet.specs.Places.{is_at, is_digit_at, begins_with, ends_line, Read};
 
+use crate::Request;
 use crate::fields::COMMA;
 use crate::lines::{LF, LONGEST, part};
 use crate::numbers::{LARGEST, wide};
 use crate::requests::{INPUT, SCAN, request_at};
 use crate::word_fields::{has_0x, hex_run};
-use crate::{Next, Request};
-
-// What is read at a place where a number or a word may stand.
-#[derive(Clone, Copy)]
-pub enum Figure {
-    // Its value, and the place after its last digit.
-    Said(u32, usize),
-    Nothing,
-}
 
 // Whether a place of a file has this byte.
 pub fn is_at(file: &[u8], at: usize, b: u8) -> bool
@@ -44,35 +36,35 @@ fn is_digit_at(file: &[u8], at: usize) -> bool
 
 // The number at a place of a file. A 0 is read alone, so that no leading zero is taken: a digit after it stands where the
 // caller looks for the end of the field.
-fn number_at(file: &[u8], at: usize) -> Figure
+fn number_at(file: &[u8], at: usize) -> Option<(u32, usize)>
     ensures { Read number_of file.now at result }
 {
     if is_at(file, at, b'0') {
-        return Figure::Said(0, at + 1);
+        return Some((0, at + 1));
     }
     let mut value: u64 = 0;
     let mut i = at;
     while is_digit_at(file, i) {
         value = value * 10 + (wide(file[i]) - 48);
         if LARGEST < value {
-            return Figure::Nothing;
+            return None;
         }
         i += 1;
     }
     if value == 0 {
-        return Figure::Nothing;
+        return None;
     }
-    Figure::Said(value as u32, i)
+    Some((value as u32, i))
 }
 
-// The word at a place of a file, in hexadecimal.
-fn hex_word_at(file: &[u8], at: usize) -> Figure
+// The word at a place of a file.
+fn word_at(file: &[u8], at: usize) -> Option<(u32, usize)>
     ensures { Read word_of file.now at result }
 {
     if has_0x(part(file, at, file.len())) {
         return hex_run(file, at + 2);
     }
-    Figure::Nothing
+    number_at(file, at)
 }
 
 // Whether a field of this letter alone stands at a place of a file, and a comma after it.
@@ -94,68 +86,52 @@ fn ends_line(file: &[u8], at: usize, end: usize) -> bool
 }
 
 // The request of a line that begins with an S.
-fn scan_at(file: &[u8], at: usize) -> Next
+fn scan_at(file: &[u8], at: usize) -> Option<(Request, usize)>
     requires { begins_with file.now at letter_s ≡ true }
-    ensures { result ≡ next_at file.now at }
+    ensures { IfSome result (λ r. next_at file.now at ≡ Some r) }
 {
-    let Figure::Said(period, end) = number_at(file, at + 2) else {
-        return request_at(file, at);
-    };
-    if ends_line(file, at, end) {
-        return Next::Taken(Request::Scan { period }, end + 1);
+    let (period, end) = number_at(file, at + 2)?;
+    if !ends_line(file, at, end) {
+        return None;
     }
-    request_at(file, at)
+    Some((Request::Scan { period }, end + 1))
 }
 
-// The request of an I line whose number is read; its word may be hexadecimal.
-fn hex_input_at(file: &[u8], at: usize, number: u32, parting: usize) -> Next
-    requires { NumberRead file.now at number parting }
-    ensures { result ≡ next_at file.now at }
-{
-    let Figure::Said(value, end) = hex_word_at(file, parting + 1) else {
-        return request_at(file, at);
-    };
-    if ends_line(file, at, end) {
-        return Next::Taken(
-            Request::Input {
-                number,
-                word: value,
-            },
-            end + 1,
-        );
-    }
-    request_at(file, at)
-}
-
-// The request of a line that begins with an I. Its word is taken for decimal first, as most are.
-fn input_at(file: &[u8], at: usize) -> Next
+// The request of a line that begins with an I.
+fn input_at(file: &[u8], at: usize) -> Option<(Request, usize)>
     requires { begins_with file.now at letter_i ≡ true }
-    ensures { result ≡ next_at file.now at }
+    ensures { IfSome result (λ r. next_at file.now at ≡ Some r) }
 {
-    let Figure::Said(number, parting) = number_at(file, at + 2) else {
-        return request_at(file, at);
-    };
+    let (number, parting) = number_at(file, at + 2)?;
     if !is_at(file, parting, COMMA) {
-        return request_at(file, at);
+        return None;
     }
-    let Figure::Said(word, end) = number_at(file, parting + 1) else {
-        return request_at(file, at);
-    };
-    if ends_line(file, at, end) {
-        return Next::Taken(Request::Input { number, word }, end + 1);
+    let (word, end) = word_at(file, parting + 1)?;
+    if !ends_line(file, at, end) {
+        return None;
     }
-    hex_input_at(file, at, number, parting)
+    Some((Request::Input { number, word }, end + 1))
 }
 
-// The request of the line at a place of a file, and the place after that line, as `request_at` gives them.
-pub fn next_request(file: &[u8], at: usize) -> Next
-    ensures { result ≡ next_at file.now at }
+// The request of a line of one of the two kinds, if it can be read so.
+fn quick_request(file: &[u8], at: usize) -> Option<(Request, usize)>
+    ensures { IfSome result (λ r. next_at file.now at ≡ Some r) }
 {
     if begins_with(file, at, INPUT) {
         return input_at(file, at);
     }
     if begins_with(file, at, SCAN) {
         return scan_at(file, at);
+    }
+    None
+}
+
+// The request of the line at a place of a file, and the place after that line, as `request_at` gives them.
+pub fn next_request(file: &[u8], at: usize) -> Option<(Request, usize)>
+    ensures { result ≡ next_at file.now at }
+{
+    if let Some(read) = quick_request(file, at) {
+        return Some(read);
     }
     request_at(file, at)
 }

@@ -6,7 +6,7 @@ use crate::fields::{after, count_fields, first};
 use crate::lines::{next_line, part};
 use crate::numbers::read_number;
 use crate::word_fields::read_word;
-use crate::{Line, Next, Number, Request};
+use crate::{Line, Request};
 
 // The first field of a line of each kind.
 const MOTOR: u8 = b'M';
@@ -23,14 +23,14 @@ fn letter(field: &[u8]) -> u8
 }
 
 // The number in the first field of what is left of a line.
-fn first_number(rest: &[u8]) -> Number
+fn first_number(rest: &[u8]) -> Option<u32>
     ensures { result ≡ number_in rest.now 0 }
 {
     read_number(first(rest))
 }
 
 // The word in it.
-fn first_word(rest: &[u8]) -> Number
+fn first_word(rest: &[u8]) -> Option<u32>
     ensures { result ≡ word_in rest.now 0 }
 {
     read_word(first(rest))
@@ -38,22 +38,22 @@ fn first_word(rest: &[u8]) -> Number
 
 // A motor line's request, by its numbers.
 #[tactic(auto, unfolding(crate::specs::Grammar::motor_from, crate::specs::Grammar::with_value))]
-fn motor(a: Number, b: Number, c: Number, d: Number, e: Number) -> Request
+fn motor(a: Option<u32>, b: Option<u32>, c: Option<u32>, d: Option<u32>, e: Option<u32>) -> Request
     ensures { result ≡ motor_from a b c d e }
 {
-    let Number::Value(number) = a else {
+    let Some(number) = a else {
         return Request::Refused;
     };
-    let Number::Value(ops1) = b else {
+    let Some(ops1) = b else {
         return Request::Refused;
     };
-    let Number::Value(ops2) = c else {
+    let Some(ops2) = c else {
         return Request::Refused;
     };
-    let Number::Value(w) = d else {
+    let Some(w) = d else {
         return Request::Refused;
     };
-    let Number::Value(u) = e else {
+    let Some(u) = e else {
         return Request::Refused;
     };
     Request::Motor {
@@ -66,23 +66,23 @@ fn motor(a: Number, b: Number, c: Number, d: Number, e: Number) -> Request
 }
 
 // An input line's.
-fn input(a: Number, b: Number) -> Request
+fn input(a: Option<u32>, b: Option<u32>) -> Request
     ensures { result ≡ input_from a b }
 {
-    let Number::Value(number) = a else {
+    let Some(number) = a else {
         return Request::Refused;
     };
-    let Number::Value(word) = b else {
+    let Some(word) = b else {
         return Request::Refused;
     };
     Request::Input { number, word }
 }
 
 // A scan line's.
-fn scan(a: Number) -> Request
+fn scan(a: Option<u32>) -> Request
     ensures { result ≡ scan_from a }
 {
-    let Number::Value(period) = a else {
+    let Some(period) = a else {
         return Request::Refused;
     };
     Request::Scan { period }
@@ -140,13 +140,13 @@ pub fn parse(line: &[u8]) -> Request
 
 // The request of the line at a place of a file, and the place after that line. After one that is empty, too long or without LF
 // that is the file's end, since the program stops there.
-pub fn request_at(file: &[u8], at: usize) -> Next
+pub fn request_at(file: &[u8], at: usize) -> Option<(Request, usize)>
     ensures { result ≡ next_at file.now at }
 {
     match next_line(file, at) {
-        Line::Until(end) => Next::Taken(parse(part(file, at, end)), end + 1),
-        Line::Refused => Next::Taken(Request::Refused, file.len()),
-        Line::End => Next::Done,
+        Line::Until(end) => Some((parse(part(file, at, end)), end + 1)),
+        Line::Refused => Some((Request::Refused, file.len())),
+        Line::End => None,
     }
 }
 

@@ -4,10 +4,8 @@ ghost use Rattle.words.specs.Word.{when◌then◌else◌};
 ghost use Rattle.sheet.specs.WordField.{is_hex_digit, hex_digit, hex_number, has0x, word_of};
 ghost use Rattle.sheet.specs.Places.{hex_digit_at, hex_run_at};
 
-use crate::Number;
 use crate::lines::part;
 use crate::numbers::{read_number, wide};
-use crate::quick::Figure;
 
 // How many hexadecimal digits a word may have.
 const MOST_DIGITS: usize = 8;
@@ -36,7 +34,7 @@ fn hex_digit_at(s: &[u8], at: usize) -> u64
 }
 
 // The digits from a place on, up to a byte that is none. A ninth ends the loop, so that no value wraps.
-pub fn hex_run(s: &[u8], at: usize) -> Figure
+pub fn hex_run(s: &[u8], at: usize) -> Option<(u32, usize)>
     ensures { result ≡ hex_run_at s.now at }
 {
     let mut value: u64 = 0;
@@ -46,27 +44,23 @@ pub fn hex_run(s: &[u8], at: usize) -> Figure
         value = value * 16 + digit;
         i += 1;
         if MOST_DIGITS < i - at {
-            return Figure::Nothing;
+            return None;
         }
         digit = hex_digit_at(s, i);
     }
     if i == at {
-        return Figure::Nothing;
+        return None;
     }
-    Figure::Said(value as u32, i)
+    Some((value as u32, i))
 }
 
 // What stands after 0x: digits alone.
-fn hex_digits(digits: &[u8]) -> Number
+#[tactic(auto, using(crate::proofs::HexRunLaws::digits_none, crate::proofs::HexRunLaws::digits_said))]
+fn hex_digits(digits: &[u8]) -> Option<u32>
     ensures { result ≡ hex_number digits.now }
 {
-    let Figure::Said(value, end) = hex_run(digits, 0) else {
-        return Number::Refused;
-    };
-    if end == digits.len() {
-        return Number::Value(value);
-    }
-    Number::Refused
+    let (value, end) = hex_run(digits, 0)?;
+    (end == digits.len()).then_some(value)
 }
 
 // Whether a field begins with 0x.
@@ -80,7 +74,7 @@ pub fn has_0x(field: &[u8]) -> bool
 }
 
 // The word that a field says.
-pub fn read_word(field: &[u8]) -> Number
+pub fn read_word(field: &[u8]) -> Option<u32>
     ensures { result ≡ word_of field.now }
 {
     if has_0x(field) {

@@ -19,12 +19,12 @@ returns-in_default c = record { found = tt; missed = λ number word next e h. no
 pub returns-in_default-request : goal.returns-in_default-request
 returns-in_default-request c = record {
   found = tt;
-  missed = λ number word next e h. c.in_default-request.not-Input number word (same_request (sym c.in-Taken.is ∙ c.next_request.ensures ∙ e));
+  missed = λ number word next e h. c.in_default-request.not-Input number word (same_request (sym c.in-Some.is ∙ c.next_request.ensures ∙ e));
 }
 
 pub returns-then-input_refusal-eq0 : goal.returns-then-input_refusal-eq0
 returns-then-input_refusal-eq0 c = record {
-  found = (sym c.next_request.ensures ∙ c.in-Taken.is ∙ rw c.in-Input.is, sym c.input_refusal.ensures ∙ c.if-input_refusal-eq0.true);
+  found = (sym c.next_request.ensures ∙ c.in-Some.is ∙ rw c.in-Input.is, sym c.input_refusal.ensures ∙ c.if-input_refusal-eq0.true);
   missed = tt;
 }
 
@@ -32,6 +32,6 @@ pub returns : goal.returns
 returns c = record {
   found = tt;
   missed =
-      λ number word next e h. let s = same_input (rw c.in-Input.is at (sym c.in-Taken.is ∙ c.next_request.ensures ∙ e)) in
+      λ number word next e h. let s = same_input (rw c.in-Input.is at (sym c.in-Some.is ∙ c.next_request.ensures ∙ e)) in
       c.if-input_refusal-eq0.false (c.input_refusal.ensures ∙ rw (s.0, s.1) h);
 }

@@ -14,14 +14,14 @@ returns-in_default c =
 pub overflow_sub-end : goal.overflow_sub-end
 overflow_sub-end c =
     let a = c.args in
-    omega (arith, found_place a.file.now a.at c.in-At.end (sym c.in-At.ensures))
+    omega (arith, found_place a.file.now a.at c.in-Some.end (sym c.in-Some.ensures))
 
 pub returns-then-is_well_sized : goal.returns-then-is_well_sized
 returns-then-is_well_sized c =
     let a = c.args in
-    sym (line_whole a.file.now a.at _ (sym c.in-At.ensures) (sym c.is_well_sized.ensures ∙ c.if-is_well_sized.true))
+    sym (line_whole a.file.now a.at _ (sym c.in-Some.ensures) (sym c.is_well_sized.ensures ∙ c.if-is_well_sized.true))
 
 pub returns-else-is_well_sized : goal.returns-else-is_well_sized
 returns-else-is_well_sized c =
     let a = c.args in
-    sym (line_faulty a.file.now a.at _ (sym c.in-At.ensures) (sym c.is_well_sized.ensures ∙ c.if-is_well_sized.false))
+    sym (line_faulty a.file.now a.at _ (sym c.in-Some.ensures) (sym c.is_well_sized.ensures ∙ c.if-is_well_sized.false))

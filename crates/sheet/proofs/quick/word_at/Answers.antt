@@ -1,10 +1,10 @@
 use mathlib.Core.Path.{◌∙◌, sym, ap}
 use native.Mathlib.Omega.{arith}
 use Rattle.sheet.specs.WordField.{has0x}
-use Rattle.sheet.specs.Places.{Read}
+use Rattle.sheet.proofs.PlaceLaws.{number_read}
 use Rattle.sheet.proofs.SplitLaws.{between_last}
 use Rattle.sheet.proofs.HexRunLaws.{two_inside, run_word}
-use Rattle.sheet.proofs.quick.hex_word_at.Goals as goal
+use Rattle.sheet.proofs.quick.word_at.Goals as goal
 
 pub overflow_add-at : goal.overflow_add-at
 overflow_add-at c =
@@ -20,5 +20,4 @@ returns-then-has_0x c =
     run_word a.file.now a.at here _ c.hex_run.ensures
 
 pub returns : goal.returns
-unfolding Read
-returns c = tt
+returns c = number_read _ _ _ c.number_at.ensures
