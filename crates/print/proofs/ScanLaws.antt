@@ -24,6 +24,7 @@ use Rattle.totals.specs.declared.Totals.{Totals}
 use Rattle.totals.specs.Running.{on_after, totals_after, scan_totals, all_totals}
 use Rattle.totals.proofs.Lists.{none_taken, length_totals, one_counted}
 use Rattle.totals.proofs.AtRest.{with_on, rest_totals}
+use Rattle.std.specs.Prelude.{Some}
 use Rattle.sheet.specs.declared.Request.TheVariants.{Scan as S}
 use Rattle.report.specs.Puts.{Puts}
 use Rattle.report.specs.declared.page.Page.{Page}
