@@ -9,9 +9,9 @@ use lib.ListN.{length, take, set, length-set}
 use lib.Seq.{take-set-lt}
 use Rattle.rules.specs.Refusals.{word_ok}
 use Rattle.sheet.specs.declared.Request.{Request}
-use Rattle.std.specs.Prelude.{Option, Some, None}
-use Rattle.std.proofs.lemmas.Option.{none-some, some_pair_parts}
-use Rattle.sheet.specs.declared.Request.TheVariants.{Input as I, Scan as S}
+use Rattle.std.specs.Prelude.{Option, Some}
+use Rattle.std.proofs.lemmas.Option.{some_pair_parts}
+use Rattle.sheet.specs.declared.Request.TheVariants.{Input as I}
 use Rattle.sheet.proofs.RequestLaws.{taken}
 use Rattle.interpreter.specs.State.{input_refusal}
 use Rattle.interpreter.specs.Lines.{InputLines}
@@ -46,23 +46,7 @@ module _ {file words : List ℕ} {held at line : ℕ} where
   inside none l = l
   inside (one_more {here = here} {number} {word} {next} s found h) l = (taken file here (I number word) next found).within
 
--- ---- which line stands at a place
+-- ---- which request stands at a place
 
--- no line
-pub no_line : {period next : ℕ} → ◌≡◌ {A = Option (Request × ℕ)} None (Some (S period, next)) → ⊥
-no_line e = none-some _ e
-
--- the request that stands there
 pub same_request : {r r' : Request} {next next' : ℕ} → ◌≡◌ {A = Option (Request × ℕ)} (Some (r, next)) (Some (r', next')) → r ≡ r'
 same_request e = (some_pair_parts _ _ _ _ e).0
-
--- an S line of this period
-pub same_period : {period next period' next' : ℕ} → ◌≡◌ {A = Option (Request × ℕ)} (Some (S period, next)) (Some (S period', next')) → period ≡ period'
-same_period e = let r = (some_pair_parts _ _ _ _ e).0 in cc
-
--- and of I lines
-pub no_input_line : {number word next : ℕ} → ◌≡◌ {A = Option (Request × ℕ)} None (Some (I number word, next)) → ⊥
-no_input_line e = none-some _ e
-
-pub same_input : {number word next number' word' next' : ℕ} → ◌≡◌ {A = Option (Request × ℕ)} (Some (I number word, next)) (Some (I number' word', next')) → (number ≡ number') × (word ≡ word')
-same_input e = let r = (some_pair_parts _ _ _ _ e).0 in (cc, cc)
