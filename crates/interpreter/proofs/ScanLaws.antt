@@ -84,10 +84,3 @@ unready t period n h =
 pub untimely : (t : State) (period : ℕ) → period_ok period ≡ false → refusal_for t (S period) ≡ 0 → ⊥
 unfolding refusal_for scan_refusal
 untimely t period e h = false≢true (sym e ∙ (accepted t.motors t.words period h).period)
-
--- where none of period 1 is accepted, none is
-pub unready_at : (t : State) (period : ℕ) → (refusal_for t (S 1) ≡ 0 → ⊥) → refusal_for t (S period) ≡ 0 → ⊥
-unfolding refusal_for scan_refusal table_refusal misfit when◌then◌else◌
-unready_at t period n h =
-    let a = accepted t.motors t.words period h in
-    n (rw (eq-eqb (length t.motors) (length t.words) a.lengths, le-ltb most_motors (length t.motors) a.room, a.records, one_right, a.words))

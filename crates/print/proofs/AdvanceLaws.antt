@@ -32,7 +32,7 @@ use Rattle.course.specs.Through.Through.{none, accepted, refused, ended}
 use Rattle.course.specs.Walk.{NoScan, Room, Advance, Run as Lines-run}
 use Rattle.course.proofs.Runs.{run_quietly, run_and_line}
 use Rattle.print.specs.Print.{rows_of, answer_of}
-use Rattle.print.specs.Advance.{print_lines, at_end}
+use Rattle.print.specs.Advance.{print_lines, at_end, most_put}
 use Rattle.print.specs.Runs.{Run}
 use Rattle.print.specs.Course.{print_walk}
 use Rattle.print.specs.declared.Sitting.{Sitting}
@@ -70,25 +70,19 @@ module _ {file : List ℕ} {s : Sitting} {page after : Page} where
         }
 
     -- a request that is accepted
-    module _ (b : Bench) (state : view_of b ≡ state_after (view_of s.bench) r) (is : length b.motors ≡ 32) (ok : refusal_for (view_of s.bench) r ≡ 0) where
-      pub goes_on : Puts page (answer_of (view_of b) r) after → Advance print_walk file s page (sitting b next (next_number s.line)) after
-      unfolding most_motors
-      goes_on p =
-          let q = state ∙ is-changed (view_of s.bench) r ok in
-          record {
-            piece = answer_of (view_of b) r;
-            through = rw q (accepted none found ok);
-            put = p;
-            short = answer_length (view_of b) r (omega (arith, used b.count b.motors is));
-            further = (Taken-step file s.at r next found).further;
-          }
+    pub goes_on : (b : Bench) → view_of b ≡ state_after (view_of s.bench) r → refusal_for (view_of s.bench) r ≡ 0 → length (answer_of (view_of b) r) ≤ most_put
+        → Puts page (answer_of (view_of b) r) after → Advance print_walk file s page (sitting b next (next_number s.line)) after
+    goes_on b state ok short p =
+        let q = state ∙ is-changed (view_of s.bench) r ok in
+        record { piece = answer_of (view_of b) r; through = rw q (accepted none found ok); put = p; short = short; further = (Taken-step file s.at r next found).further }
 
 -- one that is no scan prints nothing
 pub goes_on_quietly : {file : List ℕ} {s : Sitting} {page : Page} {r : Request} {next : ℕ} → next_at file s.at ≡ Some (r, next) → NoScan print_walk file s
-    → (b : Bench) → view_of b ≡ state_after (view_of s.bench) r → length b.motors ≡ 32 → refusal_for (view_of s.bench) r ≡ 0
-    → Advance print_walk file s page (sitting b next (next_number s.line)) page
+    → (b : Bench) → view_of b ≡ state_after (view_of s.bench) r → refusal_for (view_of s.bench) r ≡ 0 → Advance print_walk file s page (sitting b next (next_number s.line)) page
 unfolding answer_of
-goes_on_quietly {file} {s} {page} {r} {next} found no_scan b state is ok = goes_on found b state is ok (rw (no_rows r found ok) puts_none)
+goes_on_quietly {file} {s} {page} {r} {next} found no_scan b state ok =
+    let none : answer_of (view_of b) r ≡ [] = no_rows r found ok in
+    goes_on found b state ok (rw none (omega arith)) (rw none puts_none)
   where
     no_rows : (q : Request) → next_at file s.at ≡ Some (q, next) → refusal_for (view_of s.bench) q ≡ 0 → answer_of (view_of b) q ≡ []
     no_rows (M number ops1 ops2 w u) at e = refl
@@ -145,11 +139,12 @@ module _ {file : List ℕ} {s here : Sitting} {page after : Page} (r : Lines-run
       → Puts after (rows_of (next_number here.bench.scans) 1 (take here.bench.count records)) later
       → Lines-run print_walk file s page
       (sitting (record { motors = records; totals = totals; words = i.words; count = here.bench.count; scans = next_number here.bench.scans }) next (next_number i.line)) later
-  unfolding answer_of
+  unfolding answer_of most_motors
   run_scan {period} {next} {records} {totals} ts js found ok f g room p =
       let b = with_inputs here.bench i.words in
       let js₁ = same_size run.lines ∙ js in
+      let later : Bench = record { motors = records; totals = totals; words = i.words; count = here.bench.count; scans = next_number here.bench.scans } in
+      let as_many = ap length f ∙ length_part here.bench.motors (min here.bench.count most_motors) i.words period ∙ is in
       run_and_line run_inputs room
-      (goes_on {s = sitting b i.at i.line} found (record { motors = records; totals = totals; words = i.words; count = here.bench.count; scans = next_number here.bench.scans })
-      (scanned_state b is js₁ ts period ok f g) (ap length f ∙ length_part here.bench.motors (min here.bench.count most_motors) i.words period ∙ is)
-      (sym (scan_refusal_lem b is js₁ period) ∙ ok) p)
+      (goes_on {s = sitting b i.at i.line} found later (scanned_state b is js₁ ts period ok f g) (sym (scan_refusal_lem b is js₁ period) ∙ ok)
+      (answer_length (view_of later) (S period) (omega (arith, used here.bench.count records as_many))) p)

@@ -9,7 +9,7 @@ ghost use Rattle.print.specs.Course.{print_walk, print_laws};
 
 use crate::Sitting;
 use course::Course;
-use interpreter::{Bench, act, empty, in_use, is_too_long, next_number, scan_refusal};
+use interpreter::{Bench, is_too_long, next_number};
 use report::{Page, TotalsRow};
 use rules::Motor;
 use sheet::next_request;
@@ -38,7 +38,7 @@ fn totals_row(number: u32, m: Motor, t: Totals) -> TotalsRow
 fn put_end(b: Bench, page: &mut Page)
     ensures { Puts page.old (at_end (view_of b)) page.new }
 {
-    for i in 0..in_use(b.count) {
+    for i in 0..b.held() {
         page.totals(totals_row(i as u32 + 1, b.motors[i], b.totals[i]));
     }
 }
@@ -53,7 +53,7 @@ impl Course for Sitting {
     // A file that is too long is refused, and has nothing more to print.
     fn begin(file: &[u8], page: &mut Page) -> Sitting {
         let mut s = Sitting {
-            bench: empty(),
+            bench: Bench::empty(),
             at: 0,
             line: 1,
         };
@@ -70,7 +70,7 @@ impl Course for Sitting {
 
     // A bench of which a scan would be refused for more than its period is left as it is.
     fn scans(&mut self, file: &[u8], page: &mut Page) {
-        if scan_refusal(self.bench, 1) == 0 {
+        if self.bench.accept_scan(1).is_ok() {
             self.scan_lines(file, page);
         }
     }
@@ -82,14 +82,15 @@ impl Course for Sitting {
             self.at = file.len() + 1;
             return;
         };
-        let acted = act(self.bench, request);
-        if acted.refusal == 0 {
-            self.bench = acted.bench;
-            self.at = next;
-            self.line = next_number(self.line);
-        } else {
-            page.refusal(self.line, acted.refusal);
-            self.at = file.len() + 1;
+        match self.bench.act(request) {
+            Ok(()) => {
+                self.at = next;
+                self.line = next_number(self.line);
+            }
+            Err(refusal) => {
+                page.refusal(self.line, u32::from(refusal));
+                self.at = file.len() + 1;
+            }
         }
     }
 

@@ -9,7 +9,7 @@ ghost use Rattle.print.specs.Course.{print_walk};
 
 use crate::Sitting;
 use course::Course;
-use interpreter::{Bench, NextScan, in_use, next_number, next_scan, take_inputs};
+use interpreter::{Bench, Inputs, next_number, next_scan};
 use report::{Page, Row};
 use rules::Motor;
 use status::switches::{position_read, read};
@@ -39,27 +39,25 @@ impl Sitting {
         requires { refusal_for (view_of self.old.bench) (S 1) ≡ 0 }
         ensures { Scans print_walk file.now self.old page.old self.new page.new }
     {
-        let bench = self.bench;
-        let count = bench.count;
-        let held = in_use(count);
-        let mut motors = bench.motors;
-        let mut totals = bench.totals;
-        let mut words = bench.words;
-        let mut scans = bench.scans;
-        let mut at = self.at;
-        let mut line = self.line;
+        let count = self.bench.count;
+        let held = self.bench.held();
+        let mut motors = self.bench.motors;
+        let mut totals = self.bench.totals;
+        let mut scans = self.bench.scans;
+        let mut inputs = Inputs {
+            words: self.bench.words,
+            at: self.at,
+            line: self.line,
+        };
         while Sitting::MOST_PUT <= page.room() {
-            let run = take_inputs(file, count, words, at, line);
-            words = run.words;
-            at = run.at;
-            line = run.line;
-            let NextScan::Period { period, next } = next_scan(file, at) else {
+            inputs.take(file, count);
+            let Some((period, next)) = next_scan(file, inputs.at) else {
                 break;
             };
             scans = next_number(scans);
             for i in 0..held {
                 // a motor at rest is read field by field: `m` is handed on nowhere, and so never copied
-                let word = words[i];
+                let word = inputs.words[i];
                 let m = motors[i];
                 let settings = m.settings;
                 let v = m.status;
@@ -85,17 +83,17 @@ impl Sitting {
                 let after = motors[i];
                 page.row(row(scans, i as u32 + 1, after));
             }
-            at = next;
-            line = next_number(line);
+            inputs.at = next;
+            inputs.line = next_number(inputs.line);
         }
         self.bench = Bench {
             motors,
-            totals,
-            words,
+            words: inputs.words,
             count,
             scans,
+            totals,
         };
-        self.at = at;
-        self.line = line;
+        self.at = inputs.at;
+        self.line = inputs.line;
     }
 }

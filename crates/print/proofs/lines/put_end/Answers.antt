@@ -24,5 +24,5 @@ returns c =
     let b = c.args.b in
     let is : length b.motors ≡ 32 = omega arith in
     let ts : length b.totals ≡ 32 = omega arith in
-    let h : c.loop-i.i ≡ c.in_use-i-end.result = omega arith in
-    rw (take_used b.count b.motors is, take_used b.count b.totals ts, ← c.in_use-i-end.ensures, ← h) c.loop-i.invariant
+    let h : c.loop-i.i ≡ c.held-i-end.result = omega arith in
+    rw (take_used b.count b.motors is, take_used b.count b.totals ts, ← c.held-i-end.ensures, ← h) c.loop-i.invariant

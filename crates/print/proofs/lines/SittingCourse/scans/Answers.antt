@@ -1,8 +1,14 @@
-use Rattle.std.proofs.Common.{◌∙◌}
-use Rattle.interpreter.proofs.ScanLaws.{unready_at}
+use Rattle.std.proofs.Common.{sym, ◌∙◌}
+use Rattle.std.proofs.lemmas.Bool.{false≢true}
+use Rattle.rules.proofs.Numbers.{is_ok-from_zero}
+use Rattle.interpreter.proofs.ScanLaws.{unready}
 use Rattle.course.proofs.Runs.{nothing_yet}
 use Rattle.print.proofs.lines.SittingCourse.scans.Goals as goal
 
-pub returns-else-scan_refusal-eq0 : goal.returns-else-scan_refusal-eq0
-returns-else-scan_refusal-eq0 c =
-    record { run = nothing_yet; within = λ l. l; over = λ room period next f. unready_at _ period (λ z. c.if-scan_refusal-eq0.false (c.scan_refusal.ensures ∙ z)) }
+pub returns-else-is_ok : goal.returns-else-is_ok
+returns-else-is_ok c =
+    record {
+      run = nothing_yet;
+      within = λ l. l;
+      over = λ room period next f. unready _ period (λ z. false≢true (sym c.if-is_ok.false ∙ c.is_ok.ensures.value ∙ is_ok-from_zero _ (c.accept_scan.ensures ∙ z)));
+    }
