@@ -26,7 +26,7 @@ on_page : {page after : Page} {bytes : List ℕ} → page.used ≡ 0 → length 
 on_page {page} {after} {bytes} e room p = front room (subst (λ at. Put page.bytes.now at bytes after.bytes.now after.used) e p.put)
 
 module _ {C : Type 0} {w : Walk C} {file : List ℕ} where
-  all_through : {c : C} {ps : List (List ℕ)} → Calls w file c ps → (d : C) × Leads w file c (together ps) d × (length file < place w d)
+  pub all_through : {c : C} {ps : List (List ℕ)} → Calls w file c ps → (d : C) × Leads w file c (together ps) d × (length file < place w d)
   unfolding together
   all_through {c} (ended h) = (c, none, h)
   all_through (one_page h e m f calls) = let (d, through, past) = all_through calls in (d, through_then f.run.through through, past)

@@ -7,7 +7,7 @@ ghost use Rattle.dump.specs.Laws.{recorded_laws};
 use crate::Recording;
 use crate::signals::Outputs;
 use course::Course;
-use interpreter::{act, empty, is_too_long, scan_refusal};
+use interpreter::{Bench, is_too_long};
 use report::Page;
 use sheet::next_request;
 
@@ -26,7 +26,7 @@ impl Course for Recording {
     fn begin(file: &[u8], _page: &mut Page) -> Recording {
         let at = if is_too_long(file.len()) { file.len() + 1 } else { 0 };
         Recording {
-            bench: empty(),
+            bench: Bench::empty(),
             at,
             time: 0,
         }
@@ -38,7 +38,7 @@ impl Course for Recording {
 
     // A recording of which a scan would be refused for more than its period is left as it is.
     fn scans(&mut self, file: &[u8], page: &mut Page) {
-        if scan_refusal(self.bench, 1) == 0 {
+        if self.bench.accept_scan(1).is_ok() {
             self.scan_lines(file, page);
         }
     }
@@ -46,9 +46,7 @@ impl Course for Recording {
     // A line that is accepted adds nothing. At a refused line the dump ends, as at the file's end.
     fn line(&mut self, file: &[u8], page: &mut Page) {
         if let Some((request, next)) = next_request(file, self.at) {
-            let acted = act(self.bench, request);
-            if acted.refusal == 0 {
-                self.bench = acted.bench;
+            if self.bench.act(request).is_ok() {
                 self.at = next;
                 return;
             }

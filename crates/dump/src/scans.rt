@@ -10,7 +10,7 @@ ghost use Rattle.dump.specs.Advance.{recorded};
 use crate::Recording;
 use crate::lines::MOST_PUT;
 use crate::signals::Outputs;
-use interpreter::{NextScan, in_use, next_number, next_scan, take_inputs};
+use interpreter::{Inputs, next_number, next_scan};
 use report::Page;
 use rules::Motor;
 use status::switches::read;
@@ -28,7 +28,7 @@ fn stepped(m: Motor, word: u32, period: u32) -> Motor
             ..m
         };
     }
-    motor::scan(m, word, period).motor
+    motor::scan(m, word, period).unwrap_or(m)
 }
 
 // A scan of the motors in use, which is accepted: each is scanned where it stands, since a bench is dear to copy.
@@ -48,15 +48,21 @@ impl Recording {
         requires { refusal_for (view_of self.old.bench) (S 1) ≡ 0 }
         ensures { Scans recorded file.now self.old page.old self.new page.new }
     {
-        let held = in_use(self.bench.count);
+        let held = self.bench.held();
+        let mut words = self.bench.words;
         let mut before = Outputs::of_bench(self.bench);
         while MOST_PUT <= page.room() {
             // the lines' numbers are of no use to a dump
-            let inputs = take_inputs(file, self.bench.count, self.bench.words, self.at, 0);
-            let words = inputs.words;
+            let mut inputs = Inputs {
+                words,
+                at: self.at,
+                line: 0,
+            };
+            inputs.take(file, self.bench.count);
+            words = inputs.words;
             self.bench.words = words;
             self.at = inputs.at;
-            let NextScan::Period { period, next } = next_scan(file, self.at) else {
+            let Some((period, next)) = next_scan(file, self.at) else {
                 return;
             };
             scan(&mut self.bench.motors[..held], &words[..held], period);

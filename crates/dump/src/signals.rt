@@ -6,7 +6,7 @@ ghost use Rattle.vcd.specs.Text.{code_of, wires_from, values_from, change_line, 
 ghost use Rattle.dump.specs.Dump.{output_states, state_signals};
 ghost use Rattle.dump.specs.Signals.{motor_differs, Tells, first_by, scan_by};
 
-use interpreter::{Bench, in_use};
+use interpreter::Bench;
 use report::Page;
 use rules::Motor;
 use std::marker::Model;
@@ -84,7 +84,7 @@ impl Outputs {
         ensures motors { length bench.motors ≡ 32 }
         ensures words { length bench.words ≡ 32 }
     {
-        Outputs::of(&bench.motors[..in_use(bench.count)])
+        Outputs::of(&bench.motors[..bench.held()])
     }
 
     fn states(&self) -> &[u32]

@@ -1,18 +1,19 @@
 -- From an empty bench on, through any requests, the table's scan has nothing to refuse but the period: the order of S is 5, 2.
 -- Assumes nothing.
-use Prim.Native.Nat.{ℕ, zero, suc, ◌-◌, ◌≤◌}
-use mathlib.Core.Path.{◌≡◌, refl, sym, ◌∙◌}
-use mathlib.Core.Bool.{Bool, true, false, not, ◌&&◌}
-use mathlib.Core.List.{List, [], ◌∷◌, ◌++◌}
-use native.Mathlib.Omega.{arith}
-use lib.Dec.{eqb, lit<}
-use lib.ListN.{length, set, length-append, length-set}
-use borrow.Author.Tests.{eqb-true, eq-eqb, le-ltb, not-false}
+use Rattle.std.proofs.Common.{◌≡◌, ◌∙◌, ℕ, ◌-◌, ◌≤◌, Bool, true, false, not, List, [], ◌∷◌, eqb, length, refl, sym, arith, eq-eqb}
+use Rattle.std.specs.List.{list_all}
+use Rattle.std.proofs.lemmas.List.{length-append}
+use Rattle.std.proofs.lemmas.List.Elements.{All-set}
+use Rattle.std.proofs.lemmas.List.Folds.{list_all-append}
+use Rattle.std.proofs.lemmas.List.Sums.{AllPass-from_list_all, list_all-from_AllPass}
+use lib.Dec.{lit<}
+use lib.ListN.{set, length-set}
+use borrow.Author.Tests.{eqb-true, le-ltb, not-false}
 use Rattle.words.specs.Word.{when◌then◌else◌}
 use Rattle.rules.specs.declared.Motor.{Motor}
 use Rattle.rules.specs.declared.Settings.{Settings}
 use Rattle.rules.specs.Record.{fresh}
-use Rattle.rules.specs.Refusals.{most_motors, settings_in_range, in_range, period_ok, word_ok, all_ok, misfit, table_refusal, step_all, table_after}
+use Rattle.rules.specs.Refusals.{most_motors, settings_in_range, in_range, period_ok, word_ok, misfit, table_refusal, step_all, table_after}
 use Rattle.rules.proofs.Range.{range_kept, fresh_in_range}
 use Rattle.words.proofs.Laws.{and_true, either}
 use Rattle.rules.proofs.Tables.{if_zero, length_after}
@@ -23,44 +24,32 @@ use Rattle.interpreter.proofs.ActLaws.{motor_room}
 
 -- ---- a test that holds of all elements
 
-both_true : {a b : Bool} → a ≡ true → b ≡ true → (a && b) ≡ true
-both_true e f = rw (e, f)
+pub all_set : {A : Type 0} (test : A → Bool) (l : List A) (i : ℕ) (x : A) → list_all test l ≡ true → test x ≡ true → list_all test (set l i x) ≡ true
+all_set test l i x e f = list_all-from_AllPass test (set l i x) (All-set (λ y. test y ≡ true) l i x f (AllPass-from_list_all test l e))
 
-module _ {A : Type 0} (test : A → Bool) where
-  all_more : (l : List A) (x : A) → all_ok test l ≡ true → test x ≡ true → all_ok test (l ++ (x ∷ [])) ≡ true
-  unfolding all_ok
-  all_more [] x e f = both_true f refl
-  all_more (y ∷ l) x e f = let a = and_true (test y) (all_ok test l) e in both_true a.0 (all_more l x a.1 f)
-
-  pub all_set : (l : List A) (i : ℕ) (x : A) → all_ok test l ≡ true → test x ≡ true → all_ok test (set l i x) ≡ true
-  unfolding all_ok
-  all_set [] i x e f = refl
-  all_set (y ∷ l) zero x e f = both_true f (and_true (test y) (all_ok test l) e).1
-  all_set (y ∷ l) (suc i) x e f = let a = and_true (test y) (all_ok test l) e in both_true a.0 (all_set l i x a.1 f)
-
-pub steps_in_range : (ms : List Motor) (ws : List ℕ) (period : ℕ) → all_ok in_range ms ≡ true → all_ok word_ok ws ≡ true → all_ok in_range (step_all ms ws period) ≡ true
-unfolding all_ok step_all
+pub steps_in_range : (ms : List Motor) (ws : List ℕ) (period : ℕ) → list_all in_range ms ≡ true → list_all word_ok ws ≡ true → list_all in_range (step_all ms ws period) ≡ true
+unfolding step_all
 steps_in_range [] ws period e f = refl
 steps_in_range (m ∷ ms) [] period e f = e
 steps_in_range (m ∷ ms) (w ∷ ws) period e f =
-    let a = and_true (in_range m) (all_ok in_range ms) e in
-    let b = and_true (word_ok w) (all_ok word_ok ws) f in
-    both_true (range_kept m w period a.0 b.0) (steps_in_range ms ws period a.1 b.1)
+    let a = and_true (in_range m) (list_all in_range ms) e in
+    let b = and_true (word_ok w) (list_all word_ok ws) f in
+    rw (range_kept m w period a.0 b.0, steps_in_range ms ws period a.1 b.1) refl
 
-pub after_in_range : (ms : List Motor) (ws : List ℕ) (period : ℕ) → all_ok in_range ms ≡ true → all_ok word_ok ws ≡ true → all_ok in_range (table_after ms ws period) ≡ true
+pub after_in_range : (ms : List Motor) (ws : List ℕ) (period : ℕ) → list_all in_range ms ≡ true → list_all word_ok ws ≡ true → list_all in_range (table_after ms ws period) ≡ true
 unfolding table_after
-after_in_range ms ws period e f = either (λ (ns : List Motor). all_ok in_range ns ≡ true) _ (steps_in_range ms ws period e f) e
+after_in_range ms ws period e f = either (λ (ns : List Motor). list_all in_range ns ≡ true) _ (steps_in_range ms ws period e f) e
 
 -- ---- what every request keeps
 
 pub record Sound (t : State) : Type 0 where
   pub lengths : length t.motors ≡ length t.words
   pub room : length t.motors ≤ most_motors
-  pub records : all_ok in_range t.motors ≡ true
-  pub words : all_ok word_ok t.words ≡ true
+  pub records : list_all in_range t.motors ≡ true
+  pub words : list_all word_ok t.words ≡ true
 
 pub sound_empty : Sound empty_state
-unfolding empty_state all_ok most_motors
+unfolding empty_state most_motors
 sound_empty = record { lengths = refl; room = omega arith; records = refl; words = refl }
 
 settings_right : (held scans number : ℕ) (s : Settings) → motor_refusal held scans number s ≡ 0 → settings_in_range s ≡ true
@@ -73,20 +62,15 @@ word_right held number word h =
     let a = if_zero (not (is_there held number)) 10 _ (lit< tt) h in
     not-false _ (if_zero (not (word_ok word)) 3 0 (lit< tt) a.1).0
 
-zero_right : word_ok 0 ≡ true
-unfolding word_ok
-zero_right = refl
-
 sound_motor : (t : State) (number : ℕ) (s : Settings) → Sound t → motor_refusal (length t.motors) t.scans number s ≡ 0 → Sound (with_motor t s)
-unfolding with_motor
+unfolding with_motor word_ok
 sound_motor t number s h e =
     let a = length-append t.motors (fresh s ∷ []) in
-    let b = length-append t.words (0 ∷ []) in
     record {
-      lengths = omega (arith, a, b, h.lengths);
+      lengths = omega (arith, a, length-append t.words (0 ∷ []), h.lengths);
       room = omega (arith, a, motor_room _ _ _ _ e);
-      records = all_more in_range t.motors (fresh s) h.records (fresh_in_range s (settings_right _ _ _ _ e));
-      words = all_more word_ok t.words 0 h.words zero_right;
+      records = list_all-append in_range t.motors (fresh s ∷ []) ∙ rw (h.records, fresh_in_range s (settings_right _ _ _ _ e)) refl;
+      words = list_all-append word_ok t.words (0 ∷ []) ∙ rw h.words refl;
     }
 
 sound_word : (t : State) (number word : ℕ) → Sound t → input_refusal (length t.motors) number word ≡ 0 → Sound (with_word t number word)
@@ -132,14 +116,14 @@ sound_through t (r ∷ rs) h = sound_through (state_after t r) rs (sound_after t
 
 -- ---- so that only the period is left to refuse
 
+not_not : (b : Bool) → ◌≡◌ {A = ℕ} (when not b then 2 else 0) (when b then 0 else 2)
+unfolding when◌then◌else◌
+not_not true = refl
+not_not false = refl
+
 scan_by_period : (t : State) (period : ℕ) → Sound t → scan_refusal t period ≡ (when period_ok period then 0 else 2)
 unfolding scan_refusal table_refusal misfit when◌then◌else◌
-scan_by_period t period h =
-    rw (eq-eqb (length t.motors) (length t.words) h.lengths, le-ltb most_motors (length t.motors) h.room, h.records, h.words) (go (period_ok period))
-  where
-    go : (b : Bool) → ◌≡◌ {A = ℕ} (when not b then 2 else 0) (when b then 0 else 2)
-    go true = refl
-    go false = refl
+scan_by_period t period h = rw (eq-eqb (length t.motors) (length t.words) h.lengths, le-ltb most_motors (length t.motors) h.room, h.records, h.words) (not_not (period_ok period))
 
 -- S is refused by 2, exactly where the period is outside 1 to 10,000, or not at all
 pub scan_refused_by_2 : (rs : List Request) (period : ℕ) → refusal_for (states_after empty_state rs) (S period) ≡ (when period_ok period then 0 else 2)

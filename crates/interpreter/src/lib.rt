@@ -5,8 +5,8 @@
 mod acts;
 mod lines;
 
-pub use acts::{act, empty, in_use, is_too_long, next_number, scan_refusal};
-pub use lines::{Inputs, NextScan, next_scan, take_inputs};
+pub use acts::{is_too_long, next_number};
+pub use lines::{Inputs, next_scan};
 use rules::Motor;
 use table::MOST_MOTORS;
 use totals::Totals;
@@ -20,11 +20,4 @@ pub struct Bench {
     pub count: usize,
     pub scans: u32,
     pub totals: [Totals; MOST_MOTORS],
-}
-
-// What a request makes: its refusal, 0 if it is accepted, and the bench after it.
-#[derive(Clone, Copy)]
-pub struct Acted {
-    pub refusal: u32,
-    pub bench: Bench,
 }

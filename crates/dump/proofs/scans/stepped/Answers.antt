@@ -10,4 +10,4 @@ returns-then-is_resting c =
     ap (with_status c.args.m) (rw c.read.ensures at c.rest.ensures) ∙ sym (rested c.args.m c.args.word c.args.period c.requires (sym c.is_resting.ensures ∙ c.if-is_resting.true))
 
 pub returns : goal.returns
-returns c = c.scan.ensures.1 ∙ one_accepted c.args.m c.args.word c.args.period c.requires
+returns c = c.unwrap_or.ensures ∙ c.scan.ensures.motor ∙ one_accepted c.args.m c.args.word c.args.period c.requires
