@@ -1,4 +1,6 @@
 // The ten steps on the record.
+#![tactic(auto, unfolding(rules::specs::Opened::opened))]
+
 ghost use Rattle.std.specs.Prelude.{◌≡◌};
 ghost use Rattle.rules.specs.Scans.{SumsFit, Steppable};
 ghost use Rattle.rules.specs.Record.{with_status};
@@ -78,6 +80,7 @@ pub fn issue_any(m: Motor, c: u32) -> Motor
 }
 
 // Steps 1, 2 and 5.
+#[tactic(auto, unfolding(rules::specs::Resting::idle_status))]
 pub fn idle_status(s: Settings, v: Status, word: u32, r: Reading) -> Status
     ensures { result ≡ idle_status s v word r }
 {

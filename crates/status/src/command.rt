@@ -1,4 +1,6 @@
 // The seven switching commands, by number: 0 is no command.
+#![tactic(auto, unfolding(rules::specs::Opened::opened))]
+
 ghost use Rattle.std.specs.Prelude.{◌≡◌};
 ghost use Rattle.rules.specs.Record.{direction, is_on, is_off, is_mu, is_ko, input_bit, command_risen};
 
@@ -13,13 +15,13 @@ const INPUT_BITS: [u32; 8] = [32, 0, 8, 7, 3, 2, 13, 12];
 pub fn direction_of(c: u32) -> u32
     ensures { result ≡ direction c }
 {
-    if c < 8 { DIRECTIONS[c as usize] } else { 0 }
+    DIRECTIONS.get(c as usize).copied().unwrap_or(0)
 }
 
 pub fn input_bit(c: u32) -> u32
     ensures { result ≡ input_bit c }
 {
-    if c < 8 { INPUT_BITS[c as usize] } else { 32 }
+    INPUT_BITS.get(c as usize).copied().unwrap_or(32)
 }
 
 pub fn is_on(c: u32) -> bool

@@ -1,4 +1,6 @@
 // Step 4, on the status: the end of the command under way.
+#![tactic(auto, unfolding(rules::specs::Opened::opened))]
+
 ghost use Rattle.std.specs.Prelude.{◌≡◌};
 ghost use Rattle.words.specs.Word.{with_bit};
 ghost use Rattle.rules.specs.Record.{overdue_flag};

@@ -1,4 +1,6 @@
 // Step 5: flags 0 (no supply), 1 (switch fault) and 14 (switch fault, both closed).
+#![tactic(auto, unfolding(rules::specs::Opened::opened))]
+
 ghost use Rattle.std.specs.Prelude.{◌≡◌};
 ghost use Rattle.rules.specs.Steps.{faults_formed, supply_fault, switch_fault, put_flag, status5};
 

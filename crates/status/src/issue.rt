@@ -1,4 +1,6 @@
 // Steps 9 and 10, on the status: issuing a command, and the previous word.
+#![tactic(auto, unfolding(rules::specs::Opened::opened))]
+
 ghost use Rattle.std.specs.Prelude.{◌≡◌};
 ghost use Rattle.rules.specs.Steps.{flags9, turns_to_work, issue_status, status10};
 

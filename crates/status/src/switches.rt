@@ -1,4 +1,6 @@
 // Steps 1 and 2: end and Reset, and the switches.
+#![tactic(auto, unfolding(rules::specs::Opened::opened))]
+
 ghost use Rattle.std.specs.Prelude.{◌≡◌};
 ghost use Rattle.rules.specs.Steps.{status1, read_on_switch, pair_read, read_switches, reading, is_sure, position_read, both_closed, flags2, pretended, status2};
 
