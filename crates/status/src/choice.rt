@@ -24,6 +24,7 @@ pub fn is_on_acknowledged(s: Settings, v: Status, word: u32) -> bool
     !has(word, 1) & is_risen(v, word, 7) & has(s.ops2, 0) & has(v.flags, 4)
 }
 
+#[tactic(auto, using(crate::proofs::Masks::off_flags), unfolding(rules::specs::Steps::flags7))]
 pub fn acknowledged_flags(s: Settings, v: Status, word: u32) -> u32
     ensures { result ≡ flags7 s v word }
 {

@@ -11,6 +11,7 @@ use words::{choose, has, masked_out, with_bit, without_bit};
 // Flags 5 and 6.
 const OFF_FLAGS: u32 = 96;
 
+#[tactic(auto, using(crate::proofs::Masks::off_flags), unfolding(rules::specs::Steps::flags9))]
 pub fn issue_flags(c: u32, flags: u32) -> u32
     ensures { result ≡ flags9 c flags }
 {

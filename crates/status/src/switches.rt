@@ -11,6 +11,7 @@ use words::{choose, has, masked_out, with_bit};
 const RESET_FLAGS: u32 = 16380;
 
 // Step 1.
+#[tactic(auto, using(crate::proofs::Masks::reset_flags), unfolding(rules::specs::Steps::status1, rules::specs::Steps::flags1, rules::specs::Record::with_flags, rules::specs::Record::with_command, rules::specs::Record::reset))]
 pub fn begin(v: Status, word: u32) -> Status
     ensures { result ≡ status1 v word }
 {
