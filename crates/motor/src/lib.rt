@@ -44,8 +44,7 @@ pub fn fresh(s: Settings) -> Motor
     Motor {
         settings: s,
         status,
-        sum: 0,
-        output: Output::default(),
+        ..Default::default()
     }
 }
 

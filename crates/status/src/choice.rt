@@ -40,9 +40,10 @@ pub fn acknowledged_flags(s: Settings, v: Status, word: u32) -> u32
 pub fn acknowledge(s: Settings, v: Status, word: u32) -> Status
     ensures { result ≡ status7 s v word }
 {
-    let mut n = v;
-    n.flags = acknowledged_flags(s, v, word);
-    n
+    Status {
+        flags: acknowledged_flags(s, v, word),
+        ..v
+    }
 }
 
 // Whether the rise of c acknowledges, and is no command.

@@ -37,7 +37,8 @@ pub fn form_flags(s: Settings, v: Status, word: u32, r: Reading) -> Status
 {
     let fault = has_switch_fault(s, v, word, r);
     let f = put_flag(put_flag(v.flags, 0, lacks_supply(s, word)), 1, fault);
-    let mut n = v;
-    n.flags = put_flag(f, 14, fault & both_closed(r));
-    n
+    Status {
+        flags: put_flag(f, 14, fault & both_closed(r)),
+        ..v
+    }
 }

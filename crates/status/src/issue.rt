@@ -36,19 +36,21 @@ pub fn turns_to_work(s: Settings, v: Status, c: u32) -> bool
 pub fn issue_status(s: Settings, v: Status, c: u32) -> Status
     ensures { result ≡ issue_status s v c }
 {
-    let mut n = v;
-    n.mode = choose(turns_to_work(s, v, c), 2, v.mode);
-    n.command = c;
-    n.end = choose(v.command == 0, v.end, 2);
-    n.flags = issue_flags(c, v.flags);
-    n
+    Status {
+        mode: choose(turns_to_work(s, v, c), 2, v.mode),
+        command: c,
+        end: choose(v.command == 0, v.end, 2),
+        flags: issue_flags(c, v.flags),
+        ..v
+    }
 }
 
 // Step 10.
 pub fn keep_word(v: Status, word: u32) -> Status
     ensures { result ≡ status10 v word }
 {
-    let mut n = v;
-    n.previous = word;
-    n
+    Status {
+        previous: word,
+        ..v
+    }
 }

@@ -60,7 +60,8 @@ pub fn is_mode_changing(s: Settings, v: Status, word: u32) -> bool
 pub fn change_mode(s: Settings, v: Status, word: u32) -> Status
     ensures { result ≡ status6 s v word }
 {
-    let mut n = v;
-    n.mode = choose(is_mode_changing(s, v, word), asked_mode(v, word), v.mode);
-    n
+    Status {
+        mode: choose(is_mode_changing(s, v, word), asked_mode(v, word), v.mode),
+        ..v
+    }
 }

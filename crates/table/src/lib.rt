@@ -63,7 +63,7 @@ fn step_all(table: &mut [Motor], words: &[u32], period: u32)
     requires { table_refusal table.old words.now period ≡ 0 }
     ensures { table.new ≡ step_all table.old words.now period }
 {
-    // a loop over lent records and their words side by side says nothing of the records
+    // by index: after a loop over `iter_mut` with the words beside it, nothing is known of the records
     for i in 0..table.len() {
         table[i] = motor::scan(table[i], words[i], period).unwrap();
     }

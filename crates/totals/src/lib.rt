@@ -80,21 +80,27 @@ fn best_after(before: u32, best: u32, time: u32) -> u32
 pub fn after(t: Totals, m: Motor, v: Status, r: Reading, period: u32) -> Totals
     ensures { result ≡ totals_after t m v r period }
 {
-    let mut n = t;
-    n.on = on_after(t.on, r, period);
+    let on = on_after(t.on, r, period);
     let issued = has_issued(m.status.command, v);
     // most scans neither issue nor end a command
     if (v.end == 0) & !issued {
-        return n;
+        return Totals { on, ..t };
     }
-    n.issued = count_if(t.issued, issued);
-    n.displaced = count_if(t.displaced, v.end == 2);
-    n.overdue = count_if(t.overdue, v.end == 3);
-    if v.end == 1 {
-        let time = plus(m.sum, period);
-        n.confirmed = plus(t.confirmed, 1);
-        n.best = best_after(t.confirmed, t.best, time);
-        n.worst = t.worst.max(time);
+    let counted = Totals {
+        issued: count_if(t.issued, issued),
+        displaced: count_if(t.displaced, v.end == 2),
+        overdue: count_if(t.overdue, v.end == 3),
+        on,
+        ..t
+    };
+    if v.end != 1 {
+        return counted;
     }
-    n
+    let time = plus(m.sum, period);
+    Totals {
+        confirmed: plus(t.confirmed, 1),
+        best: best_after(t.confirmed, t.best, time),
+        worst: t.worst.max(time),
+        ..counted
+    }
 }
