@@ -1,5 +1,4 @@
--- The constant arrays of the commands: each agrees with its rule at every number, by one test that antt computes. So does the list of the
--- commands, of which the choice takes the first. Assumes nothing.
+-- The constant arrays of the commands: each agrees with its rule at every number, by one test that antt computes. Assumes nothing.
 use mathlib.Core.Path.{◌≡◌, refl}
 use mathlib.Core.Bool.{false}
 use mathlib.Core.List.{[], ◌∷◌}

@@ -12,12 +12,14 @@ const DIRECTIONS: [u32; 8] = [0, 1, 1, 2, 1, 2, 1, 2];
 
 const INPUT_BITS: [u32; 8] = [32, 0, 8, 7, 3, 2, 13, 12];
 
+#[tactic(auto, using(crate::proofs::Tables::direction_at, crate::proofs::Tables::direction_past))]
 pub fn direction_of(c: u32) -> u32
     ensures { result ≡ direction c }
 {
     DIRECTIONS.get(c as usize).copied().unwrap_or(0)
 }
 
+#[tactic(auto, using(crate::proofs::Tables::input_at, crate::proofs::Tables::input_past))]
 pub fn input_bit(c: u32) -> u32
     ensures { result ≡ input_bit c }
 {
