@@ -79,7 +79,7 @@ pub fn scan(table: &mut [Motor], words: &[u32], period: u32) -> Result<(), Refus
     Ok(())
 }
 
-// The first `count` records and words of two arrays.
+// The first `count` records and words of two arrays, for callers that have their motors so, in fixed memory.
 #[tactic(auto, unfolding(words::specs::Opened::choices, rules::specs::Refusals::most_motors, rules::specs::Refusals::part_refusal))]
 pub fn accept_array(
     records: [Motor; MOST_MOTORS],
