@@ -14,6 +14,7 @@ use crate::numbers::digit;
 
 // The largest number that is read. A test against it is quicker here than `checked_mul` and `checked_add` of 32 bits are.
 const LARGEST: u64 = 4294967295;
+
 use crate::requests::{INPUT, SCAN, request_at};
 use crate::word_fields::{has_0x, hex_run};
 
