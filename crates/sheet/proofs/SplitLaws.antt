@@ -1,5 +1,5 @@
 -- Laws of `split` and `index_of`: what the first b of a list parts. Assumes nothing.
-use Prim.Native.Nat.{ℕ, zero, suc, ◌+◌, ◌-◌, ◌<◌, ◌≤◌, min}
+use Prim.Native.Nat.{ℕ, zero, suc, ◌+◌, ◌-◌, ◌<◌, ◌≤◌, min, max}
 use mathlib.Core.Path.{◌≡◌, refl, sym, ap, ◌∙◌}
 use mathlib.Core.Bool.{Bool, true, false}
 use mathlib.Core.List.{List, [], ◌∷◌, ◌++◌}
@@ -34,6 +34,15 @@ module _ (b : ℕ) (s : List ℕ) (i : ℕ) (h : i < length s) where
 pub index_past : (b : ℕ) (s : List ℕ) (i : ℕ) → length s ≤ i → index_of b (drop i s) ≡ 0
 unfolding index_of
 index_past b s i h = rw (drop_of_length-le s h)
+
+-- the end, or the place itself past it, if the places passed have no b
+pub index_none : (b : ℕ) (s : List ℕ) (at i : ℕ) → at + index_of b (drop at s) ≡ i + index_of b (drop i s) → length s ≤ i → (at ≤ length s → i ≤ length s)
+    → max at (length s) ≡ at + index_of b (drop at s)
+index_none b s at i e h f = go (dec_le at (length s))
+  where
+    go : Dec (at ≤ length s) → max at (length s) ≡ at + index_of b (drop at s)
+    go (yes l) = omega (arith, index_past b s i h, f l)
+    go (no l) = omega (arith, index_past b s at (omega arith))
 
 pub index_le : (b : ℕ) (s : List ℕ) → index_of b s ≤ length s
 unfolding index_of
