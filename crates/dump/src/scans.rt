@@ -33,8 +33,7 @@ fn stepped(m: Motor, word: u32, period: u32) -> Motor
         rested.status = motor::rest(settings, v, word, read(settings, word));
         return rested;
     }
-    let scanned = motor::scan(m, word, period);
-    scanned.motor
+    motor::scan(m, word, period).unwrap_or(m)
 }
 
 // The I and S lines from a recording on, up to the first line that is refused or of another kind, and no further than the place
@@ -103,7 +102,7 @@ pub fn take_scans(file: &[u8], s: Recording, out: &mut [u8], to: usize, last: us
     let bench = s.bench;
     let motors = bench.motors;
     let words = bench.words;
-    if table::refusal_array(motors, in_use(bench.count), words, 1) == 0 {
+    if table::accept_array(motors, in_use(bench.count), words, 1).is_ok() {
         return scan_lines(file, s, out, to, last);
     }
     Recorded { recording: s, to }

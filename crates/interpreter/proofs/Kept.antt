@@ -1,5 +1,6 @@
 -- From an empty bench on, through any requests, the table's scan has nothing to refuse but the period: the order of S is 5, 2.
 -- Assumes nothing.
+use Rattle.std.specs.List.{list_all}
 use Prim.Native.Nat.{ℕ, zero, suc, ◌-◌, ◌≤◌}
 use mathlib.Core.Path.{◌≡◌, refl, sym, ◌∙◌}
 use mathlib.Core.Bool.{Bool, true, false, not, ◌&&◌}
@@ -12,7 +13,7 @@ use Rattle.words.specs.Word.{when◌then◌else◌}
 use Rattle.rules.specs.declared.Motor.{Motor}
 use Rattle.rules.specs.declared.Settings.{Settings}
 use Rattle.rules.specs.Record.{fresh}
-use Rattle.rules.specs.Refusals.{most_motors, settings_in_range, in_range, period_ok, word_ok, all_ok, misfit, table_refusal, step_all, table_after}
+use Rattle.rules.specs.Refusals.{most_motors, settings_in_range, in_range, period_ok, word_ok, misfit, table_refusal, step_all, table_after}
 use Rattle.rules.proofs.Range.{range_kept, fresh_in_range}
 use Rattle.words.proofs.Laws.{and_true, either}
 use Rattle.rules.proofs.Tables.{if_zero, length_after}
@@ -27,40 +28,38 @@ both_true : {a b : Bool} → a ≡ true → b ≡ true → (a && b) ≡ true
 both_true e f = rw (e, f)
 
 module _ {A : Type 0} (test : A → Bool) where
-  all_more : (l : List A) (x : A) → all_ok test l ≡ true → test x ≡ true → all_ok test (l ++ (x ∷ [])) ≡ true
-  unfolding all_ok
+  all_more : (l : List A) (x : A) → list_all test l ≡ true → test x ≡ true → list_all test (l ++ (x ∷ [])) ≡ true
   all_more [] x e f = both_true f refl
-  all_more (y ∷ l) x e f = let a = and_true (test y) (all_ok test l) e in both_true a.0 (all_more l x a.1 f)
+  all_more (y ∷ l) x e f = let a = and_true (test y) (list_all test l) e in both_true a.0 (all_more l x a.1 f)
 
-  pub all_set : (l : List A) (i : ℕ) (x : A) → all_ok test l ≡ true → test x ≡ true → all_ok test (set l i x) ≡ true
-  unfolding all_ok
+  pub all_set : (l : List A) (i : ℕ) (x : A) → list_all test l ≡ true → test x ≡ true → list_all test (set l i x) ≡ true
   all_set [] i x e f = refl
-  all_set (y ∷ l) zero x e f = both_true f (and_true (test y) (all_ok test l) e).1
-  all_set (y ∷ l) (suc i) x e f = let a = and_true (test y) (all_ok test l) e in both_true a.0 (all_set l i x a.1 f)
+  all_set (y ∷ l) zero x e f = both_true f (and_true (test y) (list_all test l) e).1
+  all_set (y ∷ l) (suc i) x e f = let a = and_true (test y) (list_all test l) e in both_true a.0 (all_set l i x a.1 f)
 
-pub steps_in_range : (ms : List Motor) (ws : List ℕ) (period : ℕ) → all_ok in_range ms ≡ true → all_ok word_ok ws ≡ true → all_ok in_range (step_all ms ws period) ≡ true
-unfolding all_ok step_all
+pub steps_in_range : (ms : List Motor) (ws : List ℕ) (period : ℕ) → list_all in_range ms ≡ true → list_all word_ok ws ≡ true → list_all in_range (step_all ms ws period) ≡ true
+unfolding step_all
 steps_in_range [] ws period e f = refl
 steps_in_range (m ∷ ms) [] period e f = e
 steps_in_range (m ∷ ms) (w ∷ ws) period e f =
-    let a = and_true (in_range m) (all_ok in_range ms) e in
-    let b = and_true (word_ok w) (all_ok word_ok ws) f in
+    let a = and_true (in_range m) (list_all in_range ms) e in
+    let b = and_true (word_ok w) (list_all word_ok ws) f in
     both_true (range_kept m w period a.0 b.0) (steps_in_range ms ws period a.1 b.1)
 
-pub after_in_range : (ms : List Motor) (ws : List ℕ) (period : ℕ) → all_ok in_range ms ≡ true → all_ok word_ok ws ≡ true → all_ok in_range (table_after ms ws period) ≡ true
+pub after_in_range : (ms : List Motor) (ws : List ℕ) (period : ℕ) → list_all in_range ms ≡ true → list_all word_ok ws ≡ true → list_all in_range (table_after ms ws period) ≡ true
 unfolding table_after
-after_in_range ms ws period e f = either (λ (ns : List Motor). all_ok in_range ns ≡ true) _ (steps_in_range ms ws period e f) e
+after_in_range ms ws period e f = either (λ (ns : List Motor). list_all in_range ns ≡ true) _ (steps_in_range ms ws period e f) e
 
 -- ---- what every request keeps
 
 pub record Sound (t : State) : Type 0 where
   pub lengths : length t.motors ≡ length t.words
   pub room : length t.motors ≤ most_motors
-  pub records : all_ok in_range t.motors ≡ true
-  pub words : all_ok word_ok t.words ≡ true
+  pub records : list_all in_range t.motors ≡ true
+  pub words : list_all word_ok t.words ≡ true
 
 pub sound_empty : Sound empty_state
-unfolding empty_state all_ok most_motors
+unfolding empty_state most_motors
 sound_empty = record { lengths = refl; room = omega arith; records = refl; words = refl }
 
 settings_right : (held scans number : ℕ) (s : Settings) → motor_refusal held scans number s ≡ 0 → settings_in_range s ≡ true

@@ -1,4 +1,5 @@
 -- Runs of I lines, and which line stands at a place. Assumes nothing.
+use Rattle.std.specs.List.{list_all}
 use Prim.Native.Nat.{ℕ, ◌-◌, ◌≤◌}
 use mathlib.Core.Path.{◌≡◌, refl, ◌∙◌}
 use mathlib.Core.Bool.{true}
@@ -6,7 +7,7 @@ use mathlib.Core.List.{List}
 use native.Mathlib.Omega.{arith}
 use lib.ListN.{length, take, set, length-set}
 use lib.Seq.{take-set-lt}
-use Rattle.rules.specs.Refusals.{all_ok, word_ok}
+use Rattle.rules.specs.Refusals.{word_ok}
 use Rattle.sheet.specs.declared.Request.{Request}
 use Rattle.std.specs.Prelude.{Option, Some, None}
 use Rattle.std.proofs.lemmas.Option.{none-some, some_pair_parts}
@@ -19,8 +20,8 @@ use Rattle.interpreter.proofs.ActLaws.{input_there}
 use Rattle.interpreter.proofs.Kept.{all_set, word_right}
 
 -- the word of an accepted I line is in its range
-word_kept : (words : List ℕ) (number word held : ℕ) → input_refusal held number word ≡ 0 → all_ok word_ok (take held words) ≡ true
-    → all_ok word_ok (take held (set words (number - 1) word)) ≡ true
+word_kept : (words : List ℕ) (number word held : ℕ) → input_refusal held number word ≡ 0 → list_all word_ok (take held words) ≡ true
+    → list_all word_ok (take held (set words (number - 1) word)) ≡ true
 word_kept words number word held h e =
     let n = input_there held number word h in
     rw (take-set-lt held words (number - 1) word (omega (arith, n.0, n.1))) (all_set word_ok (take held words) (number - 1) word e (word_right held number word h))
@@ -31,8 +32,8 @@ module _ {file words : List ℕ} {held at line : ℕ} where
   same_size none = refl
   same_size (one_more {later} {number = number} {word} s found h) = length-set later (number - 1) word ∙ same_size s
 
-  pub words_right : {later : List ℕ} {here k : ℕ} → InputLines file held words at line later here k → all_ok word_ok (take held words) ≡ true
-      → all_ok word_ok (take held later) ≡ true
+  pub words_right : {later : List ℕ} {here k : ℕ} → InputLines file held words at line later here k → list_all word_ok (take held words) ≡ true
+      → list_all word_ok (take held later) ≡ true
   words_right none e = e
   words_right (one_more {later} {number = number} {word} s found h) e = word_kept later number word held h (words_right s e)
 

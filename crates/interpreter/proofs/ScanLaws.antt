@@ -1,4 +1,5 @@
 -- A scan motor by motor: each motor in use is accepted by itself exactly where the table of them is. Assumes nothing.
+use Rattle.std.specs.List.{list_all}
 use Prim.Native.Nat.{ℕ, ◌<◌, ◌≤◌, min}
 use mathlib.Core.Path.{◌≡◌, refl, sym, ap, ◌∙◌}
 use mathlib.Core.Bool.{true, false, false≢true}
@@ -13,10 +14,10 @@ use Rattle.rules.specs.declared.Motor.{Motor}
 use Rattle.rules.specs.Record.{with_status}
 use Rattle.rules.specs.Steps.{reading, step}
 use Rattle.rules.specs.Resting.{rests, rested_status}
-use Rattle.rules.specs.Refusals.{most_motors, in_range, word_ok, period_ok, all_ok, misfit, one_refusal, table_refusal, part_refusal, part_after}
+use Rattle.rules.specs.Refusals.{most_motors, in_range, word_ok, period_ok, misfit, one_refusal, table_refusal, part_refusal, part_after}
 use Rattle.rules.proofs.Range.{one_in_limits, steppable}
 use Rattle.rules.proofs.Resting.{resting}
-use Rattle.rules.proofs.Tables.{all_ok_at, one_accepts, Accepted, accepted, part_front}
+use Rattle.rules.proofs.Tables.{list_all_each, one_accepts, Accepted, accepted, part_front}
 use Rattle.sheet.specs.declared.Request.TheVariants.{Scan as S}
 use Rattle.interpreter.specs.State.{State, scan_refusal, refusal_for, view_of}
 use Rattle.interpreter.specs.declared.Bench.{Bench}
@@ -35,14 +36,14 @@ rested m word period h e =
 -- ---- the motors in use
 
 module _ (motors : List Motor) (words : List ℕ) (held : ℕ) (few : held ≤ most_motors) (is : length motors ≡ 32) (js : length words ≡ 32) where
-  module _ (records : all_ok in_range (take held motors) ≡ true) (right : all_ok word_ok (take held words) ≡ true) (period : ℕ) (time : period_ok period ≡ true) where
+  module _ (records : list_all in_range (take held motors) ≡ true) (right : list_all word_ok (take held words) ≡ true) (period : ℕ) (time : period_ok period ≡ true) where
     -- each is accepted by itself
     pub due : (i : ℕ) (d : Motor) → i < held → one_refusal (get_or motors i d) (get_or words i 0) period ≡ 0
     due i d l =
         one_accepts (get_or motors i d) (get_or words i 0) period
-        (sym (ap in_range (get_or-take held motors i d l)) ∙ all_ok_at in_range (take held motors) i d records (omega (arith, length-take-le held motors (in_array held motors is few))))
+        (sym (ap in_range (get_or-take held motors i d l)) ∙ list_all_each in_range (take held motors) i d records (omega (arith, length-take-le held motors (in_array held motors is few))))
         time
-        (sym (ap word_ok (get_or-take held words i 0 l)) ∙ all_ok_at word_ok (take held words) i 0 right (omega (arith, length-take-le held words (in_array held words js few))))
+        (sym (ap word_ok (get_or-take held words i 0 l)) ∙ list_all_each word_ok (take held words) i 0 right (omega (arith, length-take-le held words (in_array held words js few))))
 
     -- and so is the table of them
     pub all_due : part_refusal motors held words period ≡ 0
@@ -52,7 +53,7 @@ module _ (motors : List Motor) (words : List ℕ) (held : ℕ) (few : held ≤ m
         let b = length-take-le held words (in_array held words js few) in
         rw (le-ltb most_motors held few, eq-eqb (length (take held motors)) (length (take held words)) (a ∙ sym b), le-ltb most_motors (length (take held motors)) (omega (arith, a)), records, right, time)
 
-    pub range_kept : all_ok in_range (take held (part_after motors held words period)) ≡ true
+    pub range_kept : list_all in_range (take held (part_after motors held words period)) ≡ true
     range_kept = rw (part_front motors held words period few (in_array held motors is few)) (after_in_range (take held motors) (take held words) period records right)
 
 -- ---- a bench of which a scan is accepted
@@ -69,7 +70,7 @@ module _ (b : Bench) (is : length b.motors ≡ 32) (js : length b.words ≡ 32) 
 
   -- where one of period 1 is, records and words are in range
   pub ready_if : part_refusal b.motors (min b.count most_motors) b.words 1 ≡ 0
-      → (all_ok in_range (take (min b.count most_motors) b.motors) ≡ true) × (all_ok word_ok (take (min b.count most_motors) b.words) ≡ true)
+      → (list_all in_range (take (min b.count most_motors) b.motors) ≡ true) × (list_all word_ok (take (min b.count most_motors) b.words) ≡ true)
   ready_if h = let a = accepting 1 (sym (scan_refusal_lem b is js 1) ∙ h) in (a.records, a.words)
 
   -- and where it is not, none is

@@ -1,6 +1,7 @@
 -- Lines read ahead of what they do: runs of I lines, which change nothing but the words that the motors hold, and S lines.
+use Rattle.std.specs.List.{list_all}
 use Rattle.std.specs.Prelude.{ℕ, ◌-◌, min, ◌≡◌, true, false, List, set, take, Some}
-use Rattle.rules.specs.Refusals.{most_motors, all_ok, in_range, word_ok, period_ok}
+use Rattle.rules.specs.Refusals.{most_motors, in_range, word_ok, period_ok}
 use Rattle.sheet.specs.Grammar.{next_at}
 use Rattle.sheet.specs.declared.Request.TheVariants.{Input as I, Scan as S}
 use Rattle.interpreter.specs.State.{next_number, input_refusal}
@@ -43,5 +44,5 @@ FoundScan file at Stop = (period next : ℕ) → next_at file at ≡ Some (S per
 
 -- What a scan of a bench needs besides its period: every record and every word in use is in its range.
 pub record ReadyBench (b : Bench) : Type 0 where
-  pub records : all_ok in_range (take (min b.count most_motors) b.motors) ≡ true
-  pub words : all_ok word_ok (take (min b.count most_motors) b.words) ≡ true
+  pub records : list_all in_range (take (min b.count most_motors) b.motors) ≡ true
+  pub words : list_all word_ok (take (min b.count most_motors) b.words) ≡ true

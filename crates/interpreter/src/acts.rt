@@ -1,12 +1,13 @@
 // What a request does to a bench.
 ghost use Rattle.std.specs.Prelude.{◌≡◌, min, ◌≤◌, take};
+ghost use Rattle.rules.specs.Numbers.{code_of};
 ghost use Rattle.rules.specs.Refusals.{most_motors, step_all};
 ghost use Rattle.totals.specs.Running.{all_totals};
 ghost use Rattle.interpreter.specs.State.{empty_state, next_number, motor_refusal, input_refusal, is_there, refusal_for, state_after, view_of, too_long};
 ghost use Rattle.sheet.specs.declared.Request.TheVariants.{Motor as M, Input as I, Scan as S};
 
 use crate::{Acted, Bench};
-use rules::{Motor, Settings};
+use rules::{Motor, Refusal, Settings};
 use sheet::Request;
 use status::switches::read;
 use table::MOST_MOTORS;
@@ -123,13 +124,20 @@ fn set_word(b: Bench, number: u32, word: u32) -> Acted
     Acted { refusal, bench: b }
 }
 
+// The number of a refusal, or 0.
+fn code<T: Drop>(outcome: Result<T, Refusal>) -> u32
+    ensures { result ≡ code_of outcome }
+{
+    outcome.err().map_or(0, u32::from)
+}
+
 // The refusal of S, of a scan that is not made.
 pub fn scan_refusal(b: Bench, period: u32) -> u32
     ensures { result ≡ refusal_for (view_of b) (S period) }
 {
     let motors = b.motors;
     let words = b.words;
-    table::refusal_array(motors, in_use(b.count), words, period)
+    code(table::accept_array(motors, in_use(b.count), words, period))
 }
 
 // The totals after a scan of the first motors, with their records before it and after it.
@@ -166,9 +174,9 @@ fn scan(b: Bench, period: u32) -> Acted
     let words = b.words;
     let held = in_use(b.count);
     let scanned = table::scan_array(motors, held, words, period);
-    let refusal = scanned.refusal;
+    let refusal = code(scanned);
     if refusal == 0 {
-        let records = scanned.records;
+        let records = scanned.unwrap_or(motors);
         let before = b.totals;
         let totals = all_totals(before, motors, records, words, held, period);
         let mut n = b;

@@ -2,17 +2,21 @@
 #![tactic(auto)]
 
 ghost use Rattle.std.specs.Prelude.{◌≡◌};
+ghost use Rattle.std.specs.Result.{result_unwrap_or};
 ghost use Rattle.rules.specs.Record.{fresh};
+ghost use Rattle.rules.specs.Numbers.{code_of};
 ghost use Rattle.rules.specs.Refusals.{settings_in_range, status_in_range, output_in_range, in_range, period_ok, word_ok, one_refusal, one_after};
 
-use rules::{Motor, Output, Settings, Status};
-use words::choose;
+use rules::{Motor, Output, Refusal, Settings, Status};
 
 mod output;
 mod resting;
 mod steps;
 
 pub use resting::{is_resting, rest};
+
+// The mode of a motor that is not scanned yet.
+const WORK: u32 = 2;
 
 // The limits of the settings, of the record, of a period and of an input word.
 const OPS1_MAX: u32 = 65535;
@@ -29,31 +33,19 @@ const PERIOD_MAX: u32 = 10000;
 
 const WORD_MAX: u32 = 131071;
 
-// What a scan makes: its refusal, 0 if it is accepted, and the record after it.
-#[derive(Clone, Copy)]
-pub struct Scanned {
-    pub refusal: u32,
-    pub motor: Motor,
-}
-
+#[tactic(auto, unfolding(rules::specs::Record::fresh, rules::specs::Record::fresh_status, rules::specs::Record::dropped))]
 pub fn fresh(s: Settings) -> Motor
     ensures { result ≡ fresh s }
 {
     let status = Status {
-        mode: 2,
-        sure: 0,
-        position: 0,
-        command: 0,
-        end: 0,
-        flags: 0,
-        previous: 0,
+        mode: WORK,
+        ..Default::default()
     };
-    let none = Output { state: 0, sum: 0 };
     Motor {
         settings: s,
-        status: status,
+        status,
         sum: 0,
-        output: none,
+        output: Output::default(),
     }
 }
 
@@ -97,30 +89,28 @@ pub fn is_word_ok(word: u32) -> bool
     word <= WORD_MAX
 }
 
-// What a scan is refused for, or 0.
-pub fn refusal(m: Motor, word: u32, period: u32) -> u32
-    ensures { result ≡ one_refusal m word period }
+// Whether a scan is accepted, or what it is refused for.
+#[tactic(auto, unfolding(words::specs::Opened::choices, rules::specs::Refusals::one_refusal))]
+pub fn accept(m: Motor, word: u32, period: u32) -> Result<(), Refusal>
+    ensures { code_of result ≡ one_refusal m word period }
 {
-    let by_word = choose(!is_word_ok(word), 3, 0);
-    let by_period = choose(!is_period_ok(period), 2, by_word);
-    choose(!is_in_range(m), 6, by_period)
+    if !is_in_range(m) {
+        Err(Refusal::Record)
+    } else if !is_period_ok(period) {
+        Err(Refusal::Period)
+    } else if !is_word_ok(word) {
+        Err(Refusal::Word)
+    } else {
+        Ok(())
+    }
 }
 
-// One scan: the ten steps, or a refusal and the record as it was.
-pub fn scan(m: Motor, word: u32, period: u32) -> Scanned
-    ensures { (result.refusal ≡ one_refusal m word period) × (result.motor ≡ one_after m word period) }
+// One scan: the record after the ten steps, or a refusal.
+#[tactic(auto, using(rules::proofs::Tables::one_accepted, rules::proofs::Tables::one_refused, rules::proofs::Range::one_in_limits, rules::proofs::Range::steppable))]
+pub fn scan(m: Motor, word: u32, period: u32) -> Result<Motor, Refusal>
+    ensures code { code_of result ≡ one_refusal m word period }
+    ensures motor { result_unwrap_or result m ≡ one_after m word period }
 {
-    let code = refusal(m, word, period);
-    if code == 0 {
-        let n = steps::step(m, word, period);
-        Scanned {
-            refusal: 0,
-            motor: n,
-        }
-    } else {
-        Scanned {
-            refusal: code,
-            motor: m,
-        }
-    }
+    accept(m, word, period)?;
+    Ok(steps::step(m, word, period))
 }

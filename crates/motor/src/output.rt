@@ -1,6 +1,5 @@
 // The output: what drops it, and what raises it.
 ghost use Rattle.std.specs.Prelude.{◌≡◌};
-ghost use Rattle.words.specs.Word.{when◌then◌else◌};
 ghost use Rattle.rules.specs.Record.{own_output, opposite_output, dropped};
 ghost use Rattle.rules.specs.Steps.{running, time_up, pulse_over, drops, raises, raised, without_opposite, output9};
 
@@ -9,17 +8,11 @@ use status::command::{is_local, is_off, is_on};
 use status::end::{is_confirmed, is_overdue};
 use words::{choose, has};
 
-// One of two outputs: a if the test holds.
-pub fn choose_output(test: bool, a: Output, b: Output) -> Output
-    ensures { result ≡ (when test then a else b) }
-{
-    if test { a } else { b }
-}
-
+#[tactic(auto, unfolding(rules::specs::Record::dropped))]
 pub fn none() -> Output
     ensures { result ≡ dropped }
 {
-    Output { state: 0, sum: 0 }
+    Output::default()
 }
 
 pub fn own(c: u32) -> u32
@@ -88,12 +81,12 @@ pub fn raise(c: u32) -> Output
 pub fn drop_opposite(o: Output, c: u32) -> Output
     ensures { result ≡ without_opposite o c }
 {
-    choose_output(o.state == opposite(c), none(), o)
+    choose(o.state == opposite(c), none(), o)
 }
 
 // The output after issuing c.
 pub fn output_after(s: Settings, o: Output, c: u32) -> Output
     ensures { result ≡ output9 s o c }
 {
-    choose_output(is_raising(s, c), raise(c), drop_opposite(o, c))
+    choose(is_raising(s, c), raise(c), drop_opposite(o, c))
 }

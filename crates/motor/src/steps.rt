@@ -5,7 +5,7 @@ ghost use Rattle.rules.specs.Record.{with_status};
 ghost use Rattle.rules.specs.Steps.{step3, step4, issue, step9, steps1to5, steps6to10, step};
 ghost use Rattle.rules.specs.Resting.{idle_status};
 
-use crate::output::{choose_output, is_dropped, is_running, is_time_up, none, output_after};
+use crate::output::{is_dropped, is_running, is_time_up, none, output_after};
 use rules::{Motor, Reading, Settings, Status};
 use status::choice::{acknowledge, to_issue};
 use status::end::{end_command, is_ended};
@@ -51,7 +51,7 @@ pub fn settle(m: Motor, r: Reading) -> Motor
         settings: s,
         status: end_command(v, r, up),
         sum: choose(ended, 0, m.sum),
-        output: choose_output(is_dropped(m, r), none(), o),
+        output: choose(is_dropped(m, r), none(), o),
     }
 }
 

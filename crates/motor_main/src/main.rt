@@ -3,10 +3,11 @@
 
 ghost use Rattle.std.specs.Prelude.{◌≡◌, true};
 ghost use Rattle.rules.specs.Record.{fresh};
+ghost use Rattle.rules.specs.Numbers.{code_of};
 ghost use Rattle.rules.specs.Refusals.{one_after};
 
-use motor::{refusal, scan};
-use rules::{Motor, Settings};
+use motor::{accept, scan};
+use rules::{Motor, Refusal, Settings};
 
 // A fresh motor with the settings of the paper's sheets after three scans.
 fn after_three(a: u32, b: u32, c: u32, period: u32) -> Motor
@@ -18,12 +19,20 @@ fn after_three(a: u32, b: u32, c: u32, period: u32) -> Motor
         w: 500,
         u: 300,
     };
-    let first = scan(motor::fresh(s), a, 100);
-    let second = scan(first.motor, b, 100);
-    let third = scan(second.motor, c, period);
-    third.motor
+    let fresh = motor::fresh(s);
+    let first = scan(fresh, a, 100).unwrap_or(fresh);
+    let second = scan(first, b, 100).unwrap_or(first);
+    scan(second, c, period).unwrap_or(second)
 }
 
+// What a scan is refused for, by its number, or 0.
+fn code(accepted: Result<(), Refusal>) -> u32
+    ensures { result ≡ code_of accepted }
+{
+    accepted.err().map_or(0, u32::from)
+}
+
+#[tactic(auto, unfolding(rules::specs::Opened::opened))]
 fn confirmed() -> bool
     ensures { result ≡ true }
 {
@@ -31,6 +40,7 @@ fn confirmed() -> bool
     (m.status.end == 1) & (m.status.position == 2) & (m.output.state == 0)
 }
 
+#[tactic(auto, unfolding(rules::specs::Opened::opened))]
 fn overdue() -> bool
     ensures { result ≡ true }
 {
@@ -38,6 +48,7 @@ fn overdue() -> bool
     (m.status.end == 3) & (m.status.flags == 8192) & (m.sum == 0)
 }
 
+#[tactic(auto, unfolding(rules::specs::Opened::opened))]
 fn displaced() -> bool
     ensures { result ≡ true }
 {
@@ -46,20 +57,22 @@ fn displaced() -> bool
 }
 
 // Refused scans: the record stays as it was.
+#[tactic(auto, unfolding(rules::specs::Opened::opened))]
 fn refused() -> bool
     ensures { result ≡ true }
 {
     let m = after_three(32, 4128, 131072, 100);
-    (m.status.command == 7) & (refusal(m, 131072, 10000) == 3)
+    (m.status.command == 7) & (code(accept(m, 131072, 10000)) == 3)
 }
 
+#[tactic(auto, unfolding(rules::specs::Opened::opened))]
 fn refused_by_order() -> bool
     ensures { result ≡ true }
 {
     let m = after_three(32, 4128, 16, 100);
     let mut broken = m;
     broken.sum = 600000;
-    (refusal(m, 131072, 10001) == 2) & (refusal(broken, 131072, 10001) == 6)
+    (code(accept(m, 131072, 10001)) == 2) & (code(accept(broken, 131072, 10001)) == 6)
 }
 
 fn main() {

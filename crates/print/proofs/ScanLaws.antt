@@ -1,4 +1,5 @@
 -- A scan taken motor by motor, each printed as it is scanned: how that comes to the scan of the table. Assumes nothing.
+use Rattle.std.specs.List.{list_all}
 use Prim.Native.Nat.{ℕ, ◌+◌, ◌<◌, ◌≤◌, min}
 use mathlib.Core.Path.{◌≡◌, sym, ap, ◌∙◌}
 use mathlib.Core.Bool.{true}
@@ -16,7 +17,7 @@ use Rattle.rules.specs.Record.{on, with_status}
 use Rattle.rules.specs.declared.Reading.{Reading}
 use Rattle.rules.specs.Steps.{reading, position_read, step}
 use Rattle.rules.specs.Resting.{rests, rested_status}
-use Rattle.rules.specs.Refusals.{most_motors, word_ok, period_ok, all_ok, one_refusal, one_after, step_all, part_refusal, part_after}
+use Rattle.rules.specs.Refusals.{most_motors, word_ok, period_ok, one_refusal, one_after, step_all, part_refusal, part_after}
 use Rattle.rules.proofs.Tables.{one_accepted, none_stepped, not_yet, one_more, length_step_all, part_stepped}
 use Rattle.words.proofs.Laws.{and_true}
 use Rattle.totals.specs.declared.Totals.{Totals}
@@ -124,7 +125,7 @@ module _ {file : List ℕ} {s : Sitting} {out : List ℕ} {to last : ℕ} {here 
   js₁ : length i.words ≡ 32
   js₁ = words_size run.lines ∙ js
 
-  right : all_ok word_ok (take held i.words) ≡ true
+  right : list_all word_ok (take held i.words) ≡ true
   right = words_right run.lines ready.words
 
   module _ (period next : ℕ) (found : next_at file i.at ≡ Some (S period, next)) (time : period_ok period ≡ true) where

@@ -1,6 +1,7 @@
 -- Runs of accepted lines: of I lines, which change nothing but the words, and of I and S lines.
+use Rattle.std.specs.List.{list_all}
 use Rattle.std.specs.Prelude.{ℕ, ◌+◌, ◌<◌, ◌≤◌, min, ◌≡◌, true, List, [], length, take}
-use Rattle.rules.specs.Refusals.{most_motors, all_ok, in_range, word_ok}
+use Rattle.rules.specs.Refusals.{most_motors, in_range, word_ok}
 use Rattle.interpreter.specs.State.{State, with_words}
 use Rattle.interpreter.specs.declared.lines.Inputs.{Inputs}
 use Rattle.print.specs.Advance.{place_of, Through, most_put, NoScan}
@@ -14,14 +15,14 @@ pub record Run (file : List ℕ) (held : ℕ) (words : List ℕ) (at line : ℕ)
       → Through file (record { at = at; state = with_words t (take count words); line = line }) []
       (record { at = r.at; state = with_words t (take count r.words); line = r.line })
   pub size : length r.words ≡ length words
-  pub right : all_ok word_ok (take held words) ≡ true → all_ok word_ok (take held r.words) ≡ true
+  pub right : list_all word_ok (take held words) ≡ true → list_all word_ok (take held r.words) ≡ true
   pub onward : at ≤ r.at
   pub within : at ≤ length file → r.at ≤ length file
 
 -- What a scan needs besides its period: every record and every word in use is in its range.
 pub record Ready (s : Sitting) : Type 0 where
-  pub records : all_ok in_range (take (min s.bench.count most_motors) s.bench.motors) ≡ true
-  pub words : all_ok word_ok (take (min s.bench.count most_motors) s.bench.words) ≡ true
+  pub records : list_all in_range (take (min s.bench.count most_motors) s.bench.motors) ≡ true
+  pub words : list_all word_ok (take (min s.bench.count most_motors) s.bench.words) ≡ true
 
 -- A run of accepted I and S lines: what they print is put, from a place up to `last` on, so that they need room for one piece after that.
 pub record Scans (file : List ℕ) (s : Sitting) (out : List ℕ) (to last : ℕ) (after : List ℕ) (r : Advanced) : Type 0 where

@@ -89,8 +89,7 @@ fn scan_lines(file: &[u8], s: Sitting, out: &mut [u8], to: usize, last: usize) -
                 motors[i] = rested;
             } else {
                 let r = read(settings, word);
-                let scanned = motor::scan(motors[i], word, period);
-                let stepped = scanned.motor;
+                let stepped = motor::scan(motors[i], word, period).unwrap_or(motors[i]);
                 let w = stepped.status;
                 totals[i] = totals::after(totals[i], motors[i], w, r, period);
                 motors[i] = stepped;
@@ -120,7 +119,7 @@ pub fn take_scans(file: &[u8], s: Sitting, out: &mut [u8], to: usize, last: usiz
     let bench = s.bench;
     let motors = bench.motors;
     let words = bench.words;
-    if table::refusal_array(motors, in_use(bench.count), words, 1) == 0 {
+    if table::accept_array(motors, in_use(bench.count), words, 1).is_ok() {
         return scan_lines(file, s, out, to, last);
     }
     Advanced { sitting: s, to }

@@ -3,3 +3,4 @@ pub mod Flags
 pub mod Tables
 pub mod Quiet
 pub mod Resting
+pub mod Numbers

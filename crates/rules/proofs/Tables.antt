@@ -1,18 +1,20 @@
 -- What follows for the two scans from their definitions, whatever the range and the ten steps are. Assumes nothing.
+use Rattle.std.specs.List.{list_all}
+use Rattle.std.proofs.lemmas.List.Folds.{list_all_at}
 use mathlib.Core.Path.{◌≡◌, refl, sym, ◌∙◌, ap}
 use Prim.Native.Nat.{ℕ, zero, suc, ◌<◌, ◌≤◌}
 use native.Mathlib.Nat.{not-suc-le-zero, le_of_suc-le-suc}
 use native.Mathlib.Omega.{arith}
-use mathlib.Core.Bool.{Bool, true, false, not, ◌&&◌, ◌||◌, and-true as and-end, and_assoc}
+use mathlib.Core.Bool.{Bool, true, false, not, ◌||◌, and-true as and-end}
 use mathlib.Core.List.{List, [], ◌∷◌, ◌++◌}
 use lib.Dec.{eqb, ltb, lit<}
 use lib.ListN.{length, get_or, set, take, drop, take-append-drop}
 use lib.Seq.{length-take-le, length_front, take_at, drop_at}
 use borrow.Author.Tests.{eqb-true, ltb-false, not-false, eq-eqb, ne_eqb, le-ltb}
 use Rattle.words.specs.Word.{when◌then◌else◌}
-use Rattle.words.proofs.Laws.{and_true, either, if_map}
+use Rattle.words.proofs.Laws.{either, if_map}
 use Rattle.rules.specs.Steps.{step}
-use Rattle.rules.specs.Refusals.{in_range, most_motors, misfit, period_ok, word_ok, all_ok, one_refusal, one_after, table_refusal, step_all, table_after, part_refusal, part_after}
+use Rattle.rules.specs.Refusals.{in_range, most_motors, misfit, period_ok, word_ok, one_refusal, one_after, table_refusal, step_all, table_after, part_refusal, part_after}
 use Rattle.rules.specs.declared.Motor.{Motor}
 
 -- ---- tests
@@ -25,17 +27,8 @@ unfolding when◌then◌else◌
 if_zero true c a l e = absurd (omega (arith, l, e))
 if_zero false c a l e = (refl, e)
 
-pub all_ok_at {ℓ} : {A : Type ℓ} (f : A → Bool) (xs : List A) (i : ℕ) (d : A) → all_ok f xs ≡ true → i < length xs → f (get_or xs i d) ≡ true
-unfolding all_ok
-all_ok_at f [] i d e l = absurd (not-suc-le-zero l)
-all_ok_at f (x ∷ xs) zero d e l = (and_true (f x) (all_ok f xs) e).0
-all_ok_at f (x ∷ xs) (suc i) d e l = all_ok_at f xs i d (and_true (f x) (all_ok f xs) e).1 (le_of_suc-le-suc l)
-
-pub all_ok_suc {ℓ} : {A : Type ℓ} (f : A → Bool) (xs : List A) (i : ℕ) (d : A) → i < length xs → all_ok f (take (suc i) xs) ≡ all_ok f (take i xs) && f (get_or xs i d)
-unfolding all_ok
-all_ok_suc f [] i d l = absurd (not-suc-le-zero l)
-all_ok_suc f (x ∷ xs) zero d l = and-end (f x)
-all_ok_suc f (x ∷ xs) (suc i) d l = ap (λ (b : Bool). f x && b) (all_ok_suc f xs i d (le_of_suc-le-suc l)) ∙ sym (and_assoc (f x) (all_ok f (take i xs)) (f (get_or xs i d)))
+pub list_all_each : {A : Type 0} (f : A → Bool) (xs : List A) (i : ℕ) (d : A) → list_all f xs ≡ true → i < length xs → f (get_or xs i d) ≡ true
+list_all_each f xs i d e l = grind (arith, list_all_at)
 
 -- ---- one motor
 pub one_refused : (m : Motor) (w p : ℕ) → (one_refusal m w p ≡ 0 → ⊥) → one_after m w p ≡ m
@@ -63,17 +56,17 @@ table_accepted ms ws p h = rw (eq-eqb (table_refusal ms ws p) 0 h)
 pub record Accepted (ms : List Motor) (ws : List ℕ) (p : ℕ) : Type 0 where
   pub lengths : length ms ≡ length ws
   pub room : length ms ≤ most_motors
-  pub records : all_ok in_range ms ≡ true
+  pub records : list_all in_range ms ≡ true
   pub period : period_ok p ≡ true
-  pub words : all_ok word_ok ws ≡ true
+  pub words : list_all word_ok ws ≡ true
 
 pub accepted : (ms : List Motor) (ws : List ℕ) (p : ℕ) → table_refusal ms ws p ≡ 0 → Accepted ms ws p
 unfolding table_refusal misfit
 accepted ms ws p h =
     let a = if_zero (not (eqb (length ms) (length ws)) || ltb most_motors (length ms)) 1 _ (lit< tt) h in
-    let b = if_zero (not (all_ok in_range ms)) 6 _ (lit< tt) a.1 in
+    let b = if_zero (not (list_all in_range ms)) 6 _ (lit< tt) a.1 in
     let c = if_zero (not (period_ok p)) 2 _ (lit< tt) b.1 in
-    let d = if_zero (not (all_ok word_ok ws)) 3 _ (lit< tt) c.1 in
+    let d = if_zero (not (list_all word_ok ws)) 3 _ (lit< tt) c.1 in
     let o = or_false (not (eqb (length ms) (length ws))) (ltb most_motors (length ms)) a.0 in
     record {
       lengths = eqb-true _ _ (not-false _ o.0);
@@ -87,7 +80,7 @@ accepted ms ws p h =
 pub each_accepted : (ms : List Motor) (ws : List ℕ) (p : ℕ) → table_refusal ms ws p ≡ 0 → (i : ℕ) (d : Motor) → i < length ms → one_refusal (get_or ms i d) (get_or ws i 0) p ≡ 0
 each_accepted ms ws p h i d l =
     let a = accepted ms ws p h in
-    one_accepts (get_or ms i d) (get_or ws i 0) p (all_ok_at in_range ms i d a.records l) a.period (all_ok_at word_ok ws i 0 a.words (rw a.lengths at l))
+    one_accepts (get_or ms i d) (get_or ws i 0) p (list_all_each in_range ms i d a.records l) a.period (list_all_each word_ok ws i 0 a.words (rw a.lengths at l))
 
 -- every record is stepped by its own word
 pub step_all_at : (ms : List Motor) (ws : List ℕ) (p i : ℕ) (d : Motor) → i < length ms → i < length ws → get_or (step_all ms ws p) i d ≡ step (get_or ms i d) (get_or ws i 0) p
@@ -147,7 +140,7 @@ steps_front (m ∷ ms) (w ∷ ws) p (suc n) = ap (λ (l : List Motor). step m w 
 
 -- ---- a table of one is refused and scanned as its record by itself
 pub single_refusal : (m : Motor) (w p : ℕ) → table_refusal (m ∷ []) (w ∷ []) p ≡ one_refusal m w p
-unfolding table_refusal misfit one_refusal most_motors all_ok when◌then◌else◌
+unfolding table_refusal misfit one_refusal most_motors when◌then◌else◌
 single_refusal m w p = rw (and-end (in_range m), and-end (word_ok w))
 
 pub single_after : (m : Motor) (w p : ℕ) → table_after (m ∷ []) (w ∷ []) p ≡ one_after m w p ∷ []

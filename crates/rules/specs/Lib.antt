@@ -5,3 +5,4 @@ pub mod Scans
 pub mod Resting
 pub mod Opened
 pub mod Sheets
+pub mod Numbers

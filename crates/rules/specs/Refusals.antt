@@ -1,6 +1,7 @@
 -- The limits, and the order of refusals of a scan: the paper's "Refused because of the input", "Refused because of the state" and
 -- "Order", as far as they concern a scan. 0 is an accepted scan.
-use Rattle.std.specs.Prelude.{ℕ, Bool, true, not, ◌&&◌, ◌||◌, List, [], ◌∷◌, ◌++◌, eqb, leb, ltb, length, take, drop}
+use Rattle.std.specs.Prelude.{ℕ, Bool, not, ◌&&◌, ◌||◌, List, [], ◌∷◌, ◌++◌, eqb, leb, ltb, length, take, drop}
+use Rattle.std.specs.List.{list_all}
 use Rattle.words.specs.Word.{when◌then◌else◌}
 use Rattle.rules.specs.declared.Settings.{Settings}
 use Rattle.rules.specs.declared.Status.{Status}
@@ -58,10 +59,6 @@ one_after m word period = when eqb (one_refusal m word period) 0 then step m wor
 
 -- A table scan: 1, 6, 2, 3, over the whole table before anything is written; refused, it leaves the table as it was. Accepted, it
 -- scans every motor, each from its own record, its own word and the period alone.
-unfoldable pub all_ok {ℓ} : {A : Type ℓ} → (A → Bool) → List A → Bool
-all_ok test [] = true
-all_ok test (x ∷ xs) = test x && all_ok test xs
-
 -- 1: records and words differ in count, or exceed 32
 unfoldable pub misfit : ℕ → ℕ → Bool
 misfit records words = not (eqb records words) || ltb most_motors records
@@ -69,9 +66,9 @@ misfit records words = not (eqb records words) || ltb most_motors records
 unfoldable pub table_refusal : List Motor → List ℕ → ℕ → ℕ
 table_refusal ms words period =
     when misfit (length ms) (length words) then 1
-    else when not (all_ok in_range ms) then 6
+    else when not (list_all in_range ms) then 6
     else when not (period_ok period) then 2
-    else when not (all_ok word_ok words) then 3
+    else when not (list_all word_ok words) then 3
     else 0
 
 -- (in an accepted scan there is a word for each motor)

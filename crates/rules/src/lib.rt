@@ -2,8 +2,11 @@
 // definitions in specs/; the functions are in the crates above.
 #![tactic(auto)]
 
+ghost use Rattle.std.specs.Prelude.{◌≡◌};
+ghost use Rattle.rules.specs.Numbers.{number_of};
+
 // OPS_1, OPS_2, the monitoring time W and the pulse time U, in milliseconds.
-#[derive(Clone, Copy)]
+#[derive(Clone, Copy, Debug, Default, PartialEq, Eq)]
 pub struct Settings {
     pub ops1: u32,
     pub ops2: u32,
@@ -13,7 +16,7 @@ pub struct Settings {
 
 // What the book of commands holds of a motor too: mode, last sure position, position, command under way, end in this
 // scan, flags and previous input word.
-#[derive(Clone, Copy)]
+#[derive(Clone, Copy, Debug, Default, PartialEq, Eq)]
 pub struct Status {
     pub mode: u32,
     pub sure: u32,
@@ -25,14 +28,14 @@ pub struct Status {
 }
 
 // An output, 0 none, 1 On or 2 Off, and its pulse sum.
-#[derive(Clone, Copy)]
+#[derive(Clone, Copy, Debug, Default, PartialEq, Eq)]
 pub struct Output {
     pub state: u32,
     pub sum: u32,
 }
 
 // A motor's record: `sum` is the time sum of the command under way.
-#[derive(Clone, Copy)]
+#[derive(Clone, Copy, Debug, Default, PartialEq, Eq)]
 pub struct Motor {
     pub settings: Settings,
     pub status: Status,
@@ -41,10 +44,53 @@ pub struct Motor {
 }
 
 // What the switches read: a position, or none for one of two causes.
-#[derive(Clone, Copy)]
+#[derive(Clone, Copy, Debug, PartialEq, Eq)]
 pub enum Reading {
     Off,
     On,
     BothOpen,
     BothClosed,
+}
+
+// What a scan, or a line of a file, is refused for.
+#[derive(Clone, Copy, Debug, PartialEq, Eq)]
+pub enum Refusal {
+    // records and words differ in count or are too many, or a file is too long
+    Size,
+    Period,
+    Word,
+    Setting,
+    Line,
+    // a record out of range
+    Record,
+    // a table without room for one more motor
+    Full,
+    // a motor after the first scan
+    Scanned,
+    // a number that is not the next
+    Number,
+    // a motor that is not there
+    Absent,
+}
+
+// The number that is printed for it.
+impl From<Refusal> for u32 {
+    ghost from_gives = { λ refusal number. number ≡ number_of refusal };
+
+    fn from(refusal: Refusal) -> u32
+        ensures { result ≡ number_of refusal }
+    {
+        match refusal {
+            Refusal::Size => 1,
+            Refusal::Period => 2,
+            Refusal::Word => 3,
+            Refusal::Setting => 4,
+            Refusal::Line => 5,
+            Refusal::Record => 6,
+            Refusal::Full => 7,
+            Refusal::Scanned => 8,
+            Refusal::Number => 9,
+            Refusal::Absent => 10,
+        }
+    }
 }

@@ -47,8 +47,9 @@ pub fn without_bit(w: u32, k: u32) -> u32
     if k < 32 { masked_out(w, 1 << k) } else { w }
 }
 
-// One of two numbers: a if the test holds.
-pub fn choose(test: bool, a: u32, b: u32) -> u32
+// One of two: a if the test holds.
+#[tactic(auto, unfolding(crate::specs::Opened::choices))]
+pub fn choose<T: Copy>(test: bool, a: T, b: T) -> T
     ensures { result ≡ (when test then a else b) }
 {
     if test { a } else { b }

@@ -11,4 +11,4 @@ returns-then-is_resting c =
 
 pub returns : goal.returns
 returns c =
-    c.scan-scanned.ensures.1 ∙ one_accepted c.args.m c.args.word c.args.period c.requires
+    c.unwrap_or.ensures ∙ c.scan.ensures.motor ∙ one_accepted c.args.m c.args.word c.args.period c.requires

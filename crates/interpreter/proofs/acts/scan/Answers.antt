@@ -24,8 +24,8 @@ right b period e f z = rw e at (sym f ∙ z)
 pub all_totals-totals-requires : goal.all_totals-totals-requires
 all_totals-totals-requires c =
     let n = c.in_use-held.ensures in
-    let ok = right c.args.b c.args.period n c.scan_array-scanned.ensures.0 c.if-refusal-eq0.true in
-    (rw n (min-le_right _ most_motors), c.scan_array-scanned.ensures.1 ∙ rw n (part_stepped _ _ _ _ ok))
+    let ok = right c.args.b c.args.period n (c.code-refusal.ensures ∙ c.scan_array-scanned.ensures.code) c.if-refusal-eq0.true in
+    (rw n (min-le_right _ most_motors), c.unwrap_or-records.ensures ∙ c.scan_array-scanned.ensures.records ∙ rw n (part_stepped _ _ _ _ ok))
 
 pub returns-then-refusal-eq0 : goal.returns-then-refusal-eq0
 returns-then-refusal-eq0 c =
@@ -33,14 +33,14 @@ returns-then-refusal-eq0 c =
     let js : length c.args.b.words ≡ 32 = omega arith in
     let ts : length c.args.b.totals ≡ 32 = omega arith in
     let n = c.in_use-held.ensures in
-    let ok = right c.args.b c.args.period n c.scan_array-scanned.ensures.0 c.if-refusal-eq0.true in (
-      code c.args.b c.args.period is js n c.scan_array-scanned.ensures.0,
-      rw c.next_number.ensures (scanned_state c.args.b is js ts c.args.period ok (rw n at c.scan_array-scanned.ensures.1) (rw n at c.all_totals-totals.ensures)),
+    let ok = right c.args.b c.args.period n (c.code-refusal.ensures ∙ c.scan_array-scanned.ensures.code) c.if-refusal-eq0.true in (
+      code c.args.b c.args.period is js n (c.code-refusal.ensures ∙ c.scan_array-scanned.ensures.code),
+      rw c.next_number.ensures (scanned_state c.args.b is js ts c.args.period ok (c.unwrap_or-records.ensures ∙ rw n at c.scan_array-scanned.ensures.records) (rw n at c.all_totals-totals.ensures)),
     )
 
 pub returns : goal.returns
 returns c =
     let is : length c.args.b.motors ≡ 32 = omega arith in
     let js : length c.args.b.words ≡ 32 = omega arith in
-    let e = code c.args.b c.args.period is js c.in_use-held.ensures c.scan_array-scanned.ensures.0 in
+    let e = code c.args.b c.args.period is js c.in_use-held.ensures (c.code-refusal.ensures ∙ c.scan_array-scanned.ensures.code) in
     (e, sym (refused _ _ (λ q. c.if-refusal-eq0.false (e ∙ q))))

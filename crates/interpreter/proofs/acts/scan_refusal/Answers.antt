@@ -9,4 +9,4 @@ returns c =
     let is : length c.args.b.motors ≡ 32 = omega arith in
     let js : length c.args.b.words ≡ 32 = omega arith in
     let h = c.well_formed in
-    c.refusal_array.ensures ∙ rw c.in_use.ensures (scan_refusal_lem c.args.b is js c.args.period)
+    c.code.ensures ∙ c.accept_array.ensures ∙ rw c.in_use.ensures (scan_refusal_lem c.args.b is js c.args.period)

@@ -56,7 +56,7 @@ loop-i-preserved c =
     let motors_later : c.if-is_resting.motors ≡ set e.motors e.i (step m word period) =
     elim c.if-is_resting.branch [
       | then-is_resting w ↦ w.motors-is ∙ set_rested e.motors e.totals e.i m t word period ok w.read-r.ensures (sym c.is_resting.ensures ∙ w.if-is_resting.true) w.rest-rested.ensures
-      | else-is_resting w ↦ w.motors-is ∙ set_scanned e.motors e.totals e.i m t word period ok w.read-r-else-is_resting.ensures w.scan-scanned.ensures.1
+      | else-is_resting w ↦ w.motors-is ∙ set_scanned e.motors e.totals e.i m t word period ok w.read-r-else-is_resting.ensures (w.unwrap_or-stepped.ensures ∙ w.scan.ensures.motor)
     ] in
     let totals_later : c.if-is_resting.totals ≡ set e.totals e.i (scan_totals t m word period) =
     elim c.if-is_resting.branch [
@@ -65,7 +65,7 @@ loop-i-preserved c =
             | then-position_read-eq2 x ↦ x.totals-is ∙ set_rested_totals e.motors e.totals e.i m t word period ok w.read-r.ensures (sym c.is_resting.ensures ∙ w.if-is_resting.true) x.on_after.ensures
             | else-position_read-eq2 x ↦ x.totals-is ∙ rested_totals_kept e.motors e.totals e.i m t word period ok w.read-r.ensures (sym c.is_resting.ensures ∙ w.if-is_resting.true) no_totals (λ q. x.if-position_read-eq2.false (w.position_read.ensures ∙ q)) refl
           ]
-      | else-is_resting w ↦ w.totals-is ∙ set_scanned_totals e.motors e.totals e.i m t word period ok w.read-r-else-is_resting.ensures w.scan-scanned.ensures.1 w.after.ensures
+      | else-is_resting w ↦ w.totals-is ∙ set_scanned_totals e.motors e.totals e.i m t word period ok w.read-r-else-is_resting.ensures (w.unwrap_or-stepped.ensures ∙ w.scan.ensures.motor) w.after.ensures
     ] in (
       omega (arith, c.loop-i-test.true),
       scanning_more e.invariant.1 blank no_totals (omega (arith, c.loop-i-test.true, c.in_use-held.ensures, l.invariant.0)) (omega (arith, c.loop-i-test.true, c.in_use-held.ensures, l.invariant.1))

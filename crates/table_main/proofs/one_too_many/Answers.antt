@@ -1,6 +1,0 @@
-use Rattle.rules.specs.Opened.{opened}
-use Rattle.table_main.proofs.one_too_many.Goals as goal
-
-pub returns : goal.returns
-unfolding opened
-returns c = let e = c.scan_fresh-r.ensures in rw (e.0, e.1)
