@@ -1,16 +1,11 @@
 -- Every motor of a bench that began empty is one that demand 3 follows: it was fresh when its M line added it, and each accepted S line
 -- since is a scan of the whole table with the words that the motors held. Its history, as the lines of a file make it, is the one that demand 3
 -- and the claim on the totals speak of. Assumes nothing.
-use Prim.Native.Nat.{ℕ, zero, suc, ◌<◌}
-use mathlib.Core.Path.{◌≡◌, refl, sym, ap, ◌∙◌}
-use mathlib.Core.Bool.{Bool, true, false}
-use mathlib.Core.List.{List, [], ◌∷◌, ◌++◌, map, map-append}
-use native.Mathlib.Omega.{arith}
+use Rattle.std.proofs.Common.{ℕ, zero, suc, ◌<◌, ◌≡◌, refl, sym, ap, ◌∙◌, Bool, true, false, List, [], ◌∷◌, ◌++◌, map, arith, eqb, length, get_or, length-append, eqb-true}
+use mathlib.Core.List.{map-append}
 use native.Mathlib.Decide.{dec_lt}
-use lib.Dec.{eqb}
-use lib.ListN.{length, get_or, length-map, length-append, get_or-map, get_or-append}
+use lib.ListN.{length-map, get_or-map, get_or-append}
 use lib.Seq.{get_or-append_seam}
-use borrow.Author.Tests.{eqb-true}
 use Rattle.words.specs.Word.{when◌then◌else◌}
 use Rattle.rules.specs.Refusals.{table_after}
 use Rattle.rules.specs.declared.Motor.{Motor}

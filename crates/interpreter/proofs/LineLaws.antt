@@ -1,15 +1,9 @@
 -- Runs of I lines, and which line stands at a place. Assumes nothing.
 use Rattle.std.specs.List.{list_all}
-use Prim.Native.Nat.{ℕ, ◌-◌, ◌≤◌}
-use mathlib.Core.Path.{◌≡◌, refl, ◌∙◌}
-use mathlib.Core.Bool.{true}
-use mathlib.Core.List.{List}
-use native.Mathlib.Omega.{arith}
-use lib.ListN.{length, take, set, length-set}
+use Rattle.std.proofs.Common.{ℕ, ◌-◌, ◌≤◌, ◌≡◌, refl, ◌∙◌, true, List, arith, length, take, set, length-set, Option, Some}
 use lib.Seq.{take-set-lt}
 use Rattle.rules.specs.Refusals.{word_ok}
 use Rattle.sheet.specs.declared.Request.{Request}
-use Rattle.std.specs.Prelude.{Option, Some}
 use Rattle.std.proofs.lemmas.Option.{some_pair_parts}
 use Rattle.sheet.specs.declared.Request.TheVariants.{Input as I}
 use Rattle.sheet.proofs.RequestLaws.{taken}

@@ -1,13 +1,7 @@
 -- A scan motor by motor: each motor in use is accepted by itself exactly where the table of them is. Assumes nothing.
 use Rattle.std.specs.List.{list_all}
-use Prim.Native.Nat.{ℕ, ◌<◌, ◌≤◌}
-use mathlib.Core.Path.{◌≡◌, refl, sym, ap, ◌∙◌}
-use mathlib.Core.Bool.{true, false, false≢true}
-use mathlib.Core.List.{List}
-use native.Mathlib.Omega.{arith}
-use lib.ListN.{length, get_or, take}
-use lib.Seq.{get_or-take, length-take-le}
-use borrow.Author.Tests.{leb-true, eq-eqb, le-ltb}
+use Rattle.std.proofs.Common.{ℕ, ◌<◌, ◌≤◌, ◌≡◌, refl, sym, ap, ◌∙◌, true, false, List, arith, length, get_or, take, get_or-take, length-take-le, leb-true, eq-eqb, le-ltb}
+use mathlib.Core.Bool.{false≢true}
 use Rattle.words.specs.Word.{when◌then◌else◌}
 use Rattle.rules.specs.declared.Motor.{Motor}
 use Rattle.rules.specs.Record.{with_status}
