@@ -79,6 +79,7 @@ fn count_scan(totals: &mut [Totals], before: &[Motor], after: &[Motor], words: &
     requires stepped { after.now ≡ step_all before.now words.now period }
     ensures { totals.new ≡ all_totals totals.old before.now words.now period }
 {
+    // by index: in a walk over all four side by side a proof has no name for the totals counted so far
     for i in 0..totals.len() {
         let was = before[i];
         let reading = read(was.settings, words[i]);
@@ -176,7 +177,7 @@ impl Bench {
         ensures unchanged { OnErr result (self.new ≡ self.old) }
     {
         let held = self.held();
-        // the scan's totals go by the motors before it
+        // the totals go by the motors before the scan
         let before = *self;
         table::scan(&mut self.motors[..held], &before.words[..held], period)?;
         let after = self.motors;
