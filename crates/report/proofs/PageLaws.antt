@@ -1,11 +1,10 @@
 -- Laws of what is put into a page, and of storing where there is room. Assumes nothing.
 use Prim.Native.Nat.{ℕ, ◌+◌, ◌-◌, ◌*◌, ◌/◌, ◌%◌, ◌^◌, ◌<◌, ◌≤◌}
 use mathlib.Core.Path.{◌≡◌, refl}
-use mathlib.Core.List.{List, [], ◌∷◌, ◌++◌, append_assoc}
+use mathlib.Core.List.{[], ◌∷◌, ◌++◌, append_assoc}
 use native.Mathlib.Omega.{arith}
 use Rattle.std.specs.Int.Bits.{bit_or}
 use Rattle.std.proofs.lemmas.Nat.{le_or_l, le_or_r}
-use lib.ListN.{length}
 use Rattle.sheet.specs.Split.{LF}
 use Rattle.report.specs.Print.{decimal, after_comma, after_commas, line_of, letter_r, row_of}
 use Rattle.report.specs.Puts.{Puts}
@@ -13,7 +12,7 @@ use Rattle.report.specs.Store.{Takes, pair_of}
 use Rattle.report.specs.declared.Row.{Row}
 use Rattle.report.specs.declared.page.Page.{Page}
 use Rattle.report.proofs.PutLaws.{puts_then, put_length}
-use Rattle.report.proofs.PrintLaws.{decimal_less, decimal_more}
+use Rattle.report.proofs.PrintLaws.{decimal_less, decimal_more, decimal_length}
 
 -- ---- a number
 
@@ -22,13 +21,16 @@ decimal_last : (n : ℕ) → 10 ≤ n → n < 2 ^ 32 → decimal n ≡ decimal (
 decimal_last n h g =
     let e : n - n / 10 * 10 ≡ n % 10 = omega arith in rw (decimal_more n h g, e)
 
+pub number_less : {p q : Page} (n : ℕ) → n < 10 → Puts p ((48 + n) ∷ []) q → Puts p (decimal n) q
+number_less n h j = rw (decimal_less n h) j
+
 pub number_then : {p q r : Page} (n : ℕ) → 10 ≤ n → n < 2 ^ 32 → Puts p (decimal (n / 10)) q → Puts q ((48 + (n - n / 10 * 10)) ∷ []) r → Puts p (decimal n) r
 number_then n h g j k = rw (decimal_last n h g) (puts_then j k)
 
 -- two digits at a time
-pub pair_last : (n : ℕ) → 10 ≤ n → n < 100 → decimal n ≡ pair_of n
+pub pair_less : {p q : Page} (n : ℕ) → 10 ≤ n → n < 100 → Puts p (pair_of n) q → Puts p (decimal n) q
 unfolding pair_of
-pair_last n h g = rw (decimal_last n h (omega arith), decimal_less (n / 10) (omega arith)) refl
+pair_less n h g j = rw (decimal_last n h (omega arith), decimal_less (n / 10) (omega arith)) j
 
 pub pair_then : {p q r : Page} (n : ℕ) → 100 ≤ n → n < 2 ^ 32 → Puts p (decimal (n / 100)) q → Puts q (pair_of (n - n / 100 * 100)) r → Puts p (decimal n) r
 unfolding pair_of
@@ -64,6 +66,6 @@ all_below a b c d e h =
       omega (arith, le_or_r abcd e),
     )
 
--- what is put takes no more room than its bytes
-pub takes_of : {p q : Page} {most : ℕ} (a : List ℕ) → length a ≤ most → Puts p a q → Takes p most q
-takes_of a h j = record { used = omega (arith, h, j.put.place); length = put_length j.put }
+-- a number takes room for ten digits at most
+pub number_takes : {p q : Page} (n : ℕ) → Puts p (decimal n) q → Takes p 10 q
+number_takes n j = record { used = omega (arith, decimal_length n, j.put.place); length = put_length j.put }

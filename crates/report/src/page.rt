@@ -101,6 +101,7 @@ impl<'a> Page<'a> {
     }
 
     // T,number,issued,confirmed,displaced,overdue,under way,on,best,worst
+    #[tactic(auto, unfolding(crate::specs::Print::totals_row_of))]
     pub fn totals(&mut self, row: TotalsRow)
         ensures { Puts self.old (totals_row_of row) self.new }
     {
@@ -119,6 +120,7 @@ impl<'a> Page<'a> {
     }
 
     // E,line,refusal
+    #[tactic(auto, unfolding(crate::specs::Print::refusal_of))]
     pub fn refusal(&mut self, line: u32, refusal: u32)
         ensures { Puts self.old (refusal_of line refusal) self.new }
     {

@@ -13,6 +13,7 @@ const LONGEST: usize = 90;
 
 impl<'a> Page<'a> {
     // R,scan,number,mode,position,command,end,output,flags
+    #[tactic(auto, using(crate::proofs::PageLaws::all_below), unfolding(crate::specs::Print::row_of))]
     pub fn row(&mut self, row: Row)
         ensures { Puts self.old (row_of row) self.new }
     {
@@ -62,6 +63,7 @@ impl<'a> Page<'a> {
     }
 
     // A number after its comma.
+    #[tactic(auto, using(crate::proofs::PutLaws::puts_then), unfolding(crate::specs::Print::after_comma))]
     fn store_field(&mut self, n: u32)
         requires { self.old.used + 11 ≤ length self.old.bytes.now }
         ensures puts { Puts self.old (after_comma n) self.new }
@@ -103,6 +105,7 @@ impl<'a> Page<'a> {
     }
 
     // Two digits.
+    #[tactic(auto, using(crate::proofs::PutLaws::puts_then), unfolding(crate::specs::Store::pair_of))]
     fn store_pair(&mut self, n: u32)
         requires { (n < 100) × (self.old.used + 2 ≤ length self.old.bytes.now) }
         ensures puts { Puts self.old (pair_of n) self.new }
