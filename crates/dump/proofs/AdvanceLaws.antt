@@ -125,13 +125,13 @@ after_inputs s n =
       time = s.time;
     }
 
-pub inputs_ready : {file : List ℕ} (s : Recording) {i : Inputs} → ReadyBench s.bench → InputRun file (min s.bench.count most_motors) s.bench.words s.at 0 i
+pub inputs_ready : {file : List ℕ} (s : Recording) {line : ℕ} {i : Inputs} → ReadyBench s.bench → InputRun file (min s.bench.count most_motors) s.bench.words s.at line i
     → ReadyBench (after_inputs s i).bench
 inputs_ready s ready inputs = record { records = ready.records; words = words_right inputs.lines ready.words }
 
-module _ {file : List ℕ} {s here : Recording} {page after : Page} where
+module _ {file : List ℕ} {s here : Recording} {page after : Page} {line : ℕ} where
   pub and_inputs : Run recorded file s page here after → (i : Inputs) → length here.bench.motors ≡ 32
-      → InputRun file (min here.bench.count most_motors) here.bench.words here.at 0 i → Run recorded file s page (after_inputs here i) after
+      → InputRun file (min here.bench.count most_motors) here.bench.words here.at line i → Run recorded file s page (after_inputs here i) after
   and_inputs run i is inputs =
       run_quietly run (inputs_through (moment_of here).motors here.bench.scans here.time here.bench.count (used here.bench.count here.bench.motors is) refl inputs.lines) (onward inputs.lines)
 

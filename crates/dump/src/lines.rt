@@ -45,13 +45,13 @@ impl Course for Recording {
 
     // A line that is accepted adds nothing. At a refused line the dump ends, as at the file's end.
     fn line(&mut self, file: &[u8], page: &mut Page) {
-        if let Some((request, next)) = next_request(file, self.at) {
-            if self.bench.act(request).is_ok() {
-                self.at = next;
-                return;
-            }
+        match next_request(file, self.at) {
+            Some((request, next)) => match self.bench.act(request) {
+                Ok(()) => self.at = next,
+                Err(_) => self.finish(file, page),
+            },
+            None => self.finish(file, page),
         }
-        self.finish(file, page);
     }
 
     ghost most_put = { refl };

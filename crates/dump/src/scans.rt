@@ -49,29 +49,29 @@ impl Recording {
         ensures { Scans recorded file.now self.old page.old self.new page.new }
     {
         let held = self.bench.held();
-        let mut words = self.bench.words;
+        let words = self.bench.words;
+        // the lines' numbers are of no use to a dump
+        let mut inputs = Inputs {
+            words,
+            at: self.at,
+            line: 0,
+        };
         let mut before = Outputs::of_bench(self.bench);
         while MOST_PUT <= page.room() {
-            // the lines' numbers are of no use to a dump
-            let mut inputs = Inputs {
-                words,
-                at: self.at,
-                line: 0,
-            };
             inputs.take(file, self.bench.count);
-            words = inputs.words;
-            self.bench.words = words;
-            self.at = inputs.at;
-            let Some((period, next)) = next_scan(file, self.at) else {
-                return;
+            let Some((period, next)) = next_scan(file, inputs.at) else {
+                break;
             };
-            scan(&mut self.bench.motors[..held], &words[..held], period);
+            scan(&mut self.bench.motors[..held], &inputs.words[..held], period);
             let after = Outputs::of(&self.bench.motors[..held]);
             self.time = totals::plus(self.time, period);
             after.put_scan(page, self.bench.scans, self.time, &before);
             self.bench.scans = next_number(self.bench.scans);
-            self.at = next;
+            inputs.at = next;
             before = after;
         }
+        let words = inputs.words;
+        self.bench.words = words;
+        self.at = inputs.at;
     }
 }

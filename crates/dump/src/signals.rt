@@ -11,7 +11,7 @@ use report::Page;
 use rules::Motor;
 use std::marker::Model;
 use table::MOST_MOTORS;
-use vcd::pages::{Wire, put_frame_end, put_frame_start, put_time, put_value, put_wire};
+use vcd::{Wire, put_frame_end, put_frame_start, put_time, put_value, put_wire};
 
 // The code of a signal.
 #[tactic(auto, unfolding(vcd::specs::Text::code_of))]

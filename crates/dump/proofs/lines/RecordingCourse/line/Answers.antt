@@ -1,17 +1,18 @@
-use Rattle.std.proofs.Common.{sym, ◌∙◌}
+use Rattle.std.proofs.Common.{sym, ◌∙◌, arith}
+use Rattle.rules.proofs.Numbers.{number_positive}
 use Rattle.dump.proofs.AdvanceLaws.{at_end, goes_on, stops}
 use Rattle.dump.proofs.lines.RecordingCourse.line.Goals as goal
-use Rattle.dump.proofs.lines.RecordingCourse.line.Goals.{in-Some+else-acted-eq0, in_default}
 
-pub returns-then-acted-eq0 : goal.returns-then-acted-eq0
-returns-then-acted-eq0 c =
-    let a = c.act-acted in
-    goes_on a.result.bench (sym c.next_request.ensures ∙ c.in-Some.is) c.requires.no_scan (sym a.ensures.0 ∙ c.if-acted-eq0.true) a.ensures.1
+pub returns-in-Ok : goal.returns-in-Ok
+returns-in-Ok c = goes_on c.act.new.self (sym c.next_request.ensures ∙ c.in-Some.is) c.requires.no_scan (sym c.in-Ok.ensures.refusal) c.in-Ok.ensures.state
 
-pub returns : goal.returns
-returns c =
-    let f = c.finish.ensures in
-    elim c.match-next_request.branch [
-      | in-Some+else-acted-eq0 w ↦ stops f.put f.past f.few (sym c.next_request.ensures ∙ w.in-Some.is) (λ z. w.if-acted-eq0.false (w.act-acted.ensures.0 ∙ z))
-      | in_default w ↦ at_end f.put f.past f.few c.requires.here (sym c.next_request.ensures ∙ w.in_default.is)
-    ]
+pub returns-in-Err : goal.returns-in-Err
+returns-in-Err c =
+    let f = rw c.in-Err.ensures.unchanged at c.finish.ensures in
+    stops f.put f.past f.few (sym c.next_request.ensures ∙ c.in-Some.is)
+    (λ z. absurd (omega (arith, c.in-Err.ensures.refusal, number_positive c.in-Err.field-0, z)))
+
+pub returns-in-None : goal.returns-in-None
+returns-in-None c =
+    let f = c.finish-in-None.ensures in
+    at_end f.put f.past f.few c.requires.here (sym c.next_request.ensures ∙ c.in-None.is)

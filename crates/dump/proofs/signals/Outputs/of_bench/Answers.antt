@@ -7,10 +7,10 @@ pub of-requires : goal.of-requires
 of-requires c =
     let b = c.args.bench in
     let is : length b.motors ≡ 32 = omega arith in
-    rw (c.in_use.ensures, ← take_used b.count b.motors is) (few b is)
+    rw (c.held.ensures, ← take_used b.count b.motors is) (few b is)
 
 pub returns-clause-shown : goal.returns-clause-shown
 returns-clause-shown c =
     let b = c.args.bench in
     let is : length b.motors ≡ 32 = omega arith in
-    rw (take_used b.count b.motors is, ← c.in_use.ensures) c.of.ensures
+    rw (take_used b.count b.motors is, ← c.held.ensures) c.of.ensures
