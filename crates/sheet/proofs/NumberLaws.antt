@@ -100,14 +100,6 @@ digits_free b (x ∷ s) f e = let w = and_true (is_digit x) (all_digits s) e in 
 
 -- ---- what a field of digits says
 
-pub no_digits : (s : List ℕ) → all_digits s ≡ false → digits_number s ≡ None
-unfolding digits_number when◌then◌else◌
-no_digits s e = rw e
-
-pub too_large : (s : List ℕ) → largest < value_from 0 s → digits_number s ≡ None
-unfolding digits_number when◌then◌else◌
-too_large s h = rw (lt-leb (value_from 0 s) largest h, and-false (all_digits s))
-
 pub in_range_lem : (s : List ℕ) (v : ℕ) → all_digits s ≡ true → value_from 0 s ≡ v → v ≤ largest → digits_number s ≡ Some v
 unfolding digits_number when◌then◌else◌
 in_range_lem s v d e h = rw (d, e, le-leb v largest h)

@@ -168,24 +168,6 @@ free_joined {b} {c} n (free_more {p = p} h (free_more {p = q} {ps = qs} g f)) =
     rw (index_append b p (c ∷ joined c (q ∷ qs)) h, ne_eqb c b n)
     (omega (arith, length-append p (c ∷ joined c (q ∷ qs)), free_joined n (free_more {p = q} g f)))
 
--- one byte passed: a part more if it is b
-module _ (b : ℕ) (s : List ℕ) (i : ℕ) (h : i < length s) where
-  pub parts_hit : get_or s i 0 ≡ b → length (split b (drop i s)) ≡ suc (length (split b (drop (suc i) s)))
-  unfolding split when◌then◌else◌
-  parts_hit e = rw (drop-cons s i 0 h, eq-eqb (get_or s i 0) b e)
-
-  pub parts_miss : (get_or s i 0 ≡ b → ⊥) → length (split b (drop i s)) ≡ length (split b (drop (suc i) s))
-  unfolding split when◌then◌else◌ join_first
-  parts_miss e = rw (drop-cons s i 0 h, ne_eqb (get_or s i 0) b e) (joined (get_or s i 0) (split b (drop (suc i) s)) (parts_pos b (drop (suc i) s)))
-    where
-      joined : (x : ℕ) (ps : List (List ℕ)) → 0 < length ps → length (join_first x ps) ≡ length ps
-      joined x [] l = absurd (omega arith)
-      joined x (p ∷ ps) l = refl
-
-pub parts_past : (b : ℕ) (s : List ℕ) (i : ℕ) → length s ≤ i → length (split b (drop i s)) ≡ 1
-unfolding split
-parts_past b s i h = rw (drop_of_length-le s h)
-
 -- ---- the fields of a line
 
 -- by std's words
@@ -224,32 +206,9 @@ first_field s = go (dec_lt (index_of comma s) (length s))
     go (yes h) = rw (split_hit comma s h)
     go (no h) = rw (split_none comma s (omega arith), take_all (index_of comma s) s (omega arith))
 
--- an empty line has empty fields alone
-pub no_field : (k : ℕ) → field_of [] k ≡ []
-unfolding field_of split
-no_field zero = refl
-no_field (suc k) = refl
-
-pub empty_field : (s : List ℕ) (k : ℕ) → length s ≡ 0 → s ≡ field_of s k
-empty_field [] k h = sym (no_field k)
-empty_field (x ∷ s) k h = absurd (omega arith)
-
--- what follows the first comma has the fields after the first
-pub field_after : (s : List ℕ) (k : ℕ) → field_of (drop (suc (index_of comma s)) s) k ≡ field_of s (suc k)
-unfolding field_of
-field_after s k = go (dec_lt (index_of comma s) (length s))
-  where
-    go : Dec (index_of comma s < length s) → field_of (drop (suc (index_of comma s)) s) k ≡ field_of s (suc k)
-    go (yes h) = rw (split_hit comma s h)
-    go (no h) = rw (split_none comma s (omega arith), drop_of_length-le s {i = suc (index_of comma s)} (omega arith)) (no_field k)
-
 -- ---- a part between two places
 
--- from the start, and to the end
-pub between_first : (n : ℕ) (s : List ℕ) → between 0 n s ≡ take n s
-unfolding between
-between_first n s = rw (sub-zero n)
-
+-- to the end
 pub between_last : (n : ℕ) (s : List ℕ) → between n (length s) s ≡ drop n s
 unfolding between
 between_last n s = take_all (length s - n) (drop n s) (omega (arith, length-drop n s))

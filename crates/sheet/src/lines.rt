@@ -41,6 +41,7 @@ pub fn part(s: &[u8], from: usize, to: usize) -> &[u8]
 }
 
 // Whether a line of n bytes without LF is neither empty nor too long.
+#[tactic(auto, unfolding(crate::specs::Lines::well_sized))]
 fn is_well_sized(n: usize) -> bool
     ensures { result ≡ well_sized n }
 {

@@ -66,6 +66,7 @@ fn word_at(file: &[u8], at: usize) -> Option<(u32, usize)>
 }
 
 // Whether a field of this letter alone stands at a place of a file, and a comma after it.
+#[tactic(auto, using(crate::proofs::PlaceLaws::byte_at), unfolding(crate::specs::Places::begins_with))]
 fn begins_with(file: &[u8], at: usize, letter: u8) -> bool
     ensures { result ≡ begins_with file.now at letter }
 {
@@ -76,6 +77,7 @@ fn begins_with(file: &[u8], at: usize, letter: u8) -> bool
 }
 
 // Whether an LF stands at `end`, and a line from `at` up to there is not too long.
+#[tactic(auto, unfolding(crate::specs::Places::ends_line))]
 fn ends_line(file: &[u8], at: usize, end: usize) -> bool
     requires { at ≤ end }
     ensures { result ≡ ends_line file.now at end }

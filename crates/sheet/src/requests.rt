@@ -17,6 +17,7 @@ pub const INPUT: u8 = b'I';
 pub const SCAN: u8 = b'S';
 
 // The byte of a field of one byte, and 0 of any other.
+#[tactic(auto, unfolding(words::specs::Opened::choices, crate::specs::Grammar::letter_of))]
 fn letter(field: &[u8]) -> u8
     ensures { result ≡ letter_of field.now }
 {
@@ -91,6 +92,7 @@ pub fn parse(line: &[u8]) -> Request
 
 // The request of the line at a place of a file, and the place after that line. After one that is empty, too long or without LF
 // that is the file's end, since the program stops there.
+#[tactic(auto, using(crate::proofs::LineLaws::until_whole), unfolding(crate::specs::Grammar::next_at, crate::specs::Grammar::taken_at))]
 pub fn request_at(file: &[u8], at: usize) -> Option<(Request, usize)>
     ensures { result ≡ next_at file.now at }
 {

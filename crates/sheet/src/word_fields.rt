@@ -11,7 +11,7 @@ use crate::numbers::read_number;
 const MOST_DIGITS: usize = 8;
 
 // The value of a hexadecimal digit.
-#[tactic(auto, unfolding(crate::specs::WordField::is_hex_digit, crate::specs::WordField::hex_digit, crate::specs::Number::is_digit))]
+#[tactic(auto, unfolding(words::specs::Opened::choices, crate::specs::WordField::is_hex_digit, crate::specs::WordField::hex_digit, crate::specs::Number::is_digit))]
 fn hex_digit(b: u8) -> Option<u32>
     ensures { result ≡ then_some (is_hex_digit b) (hex_digit b) }
 {
@@ -56,16 +56,15 @@ fn hex_digits(digits: &[u8]) -> Option<u32>
 }
 
 // Whether a field begins with 0x.
+#[tactic(auto, using(crate::proofs::WordFieldLaws::short_no_0x), unfolding(crate::specs::WordField::has0x))]
 pub fn has_0x(field: &[u8]) -> bool
     ensures { result ≡ has0x field.now }
 {
-    if field.len() < 2 {
-        return false;
-    }
-    (field[0] == b'0') & (field[1] == b'x')
+    matches!(field, [b'0', b'x', ..])
 }
 
 // The word that a field says.
+#[tactic(auto, using(crate::proofs::SplitLaws::between_last), unfolding(words::specs::Opened::choices, crate::specs::WordField::word_of))]
 pub fn read_word(field: &[u8]) -> Option<u32>
     ensures { result ≡ word_of field.now }
 {
