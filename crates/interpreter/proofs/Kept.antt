@@ -1,25 +1,21 @@
 -- From an empty bench on, through any requests, the table's scan has nothing to refuse but the period: the order of S is 5, 2.
 -- Assumes nothing.
-use Rattle.std.proofs.Common.{◌≡◌, ◌∙◌, ℕ, ◌-◌, ◌≤◌, Bool, true, false, not, List, [], ◌∷◌, eqb, length, refl, sym, arith, eq-eqb}
+use Rattle.std.proofs.Common.{◌≡◌, ◌∙◌, ℕ, ◌-◌, ◌≤◌, Bool, true, false, List, [], ◌∷◌, eqb, length, refl, arith, length-append, set, length-set, eqb-true}
 use Rattle.std.specs.List.{list_all}
-use Rattle.std.proofs.lemmas.List.{length-append}
 use Rattle.std.proofs.lemmas.List.Elements.{All-set}
 use Rattle.std.proofs.lemmas.List.Folds.{list_all-append}
+use Rattle.std.proofs.lemmas.Bool.Decides.{nat_tests}
 use Rattle.std.proofs.lemmas.List.Sums.{AllPass-from_list_all, list_all-from_AllPass}
-use lib.Dec.{lit<}
-use lib.ListN.{set, length-set}
-use borrow.Author.Tests.{eqb-true, le-ltb, not-false}
 use Rattle.words.specs.Word.{when◌then◌else◌}
 use Rattle.rules.specs.declared.Motor.{Motor}
 use Rattle.rules.specs.declared.Settings.{Settings}
-use Rattle.rules.specs.Record.{fresh}
 use Rattle.rules.specs.Refusals.{most_motors, settings_in_range, in_range, period_ok, word_ok, misfit, table_refusal, step_all, table_after}
 use Rattle.rules.proofs.Range.{range_kept, fresh_in_range}
 use Rattle.words.proofs.Laws.{and_true, either}
-use Rattle.rules.proofs.Tables.{if_zero, length_after}
+use Rattle.rules.proofs.Tables.{length_after}
 use Rattle.sheet.specs.declared.Request.{Request}
 use Rattle.sheet.specs.declared.Request.TheVariants.{Motor as M, Input as I, Scan as S, Refused}
-use Rattle.interpreter.specs.State.{State, empty_state, motor_refusal, with_motor, is_there, input_refusal, with_words, with_word, scan_refusal, with_scan, refusal_for, changed, state_after, states_after}
+use Rattle.interpreter.specs.State.{State, empty_state, motor_refusal, with_motor, input_refusal, with_words, with_word, scan_refusal, with_scan, refusal_for, changed, state_after, states_after}
 use Rattle.interpreter.proofs.ActLaws.{motor_room}
 
 -- ---- a test that holds of all elements
@@ -53,31 +49,28 @@ unfolding empty_state most_motors
 sound_empty = record { lengths = refl; room = omega arith; records = refl; words = refl }
 
 settings_right : (held scans number : ℕ) (s : Settings) → motor_refusal held scans number s ≡ 0 → settings_in_range s ≡ true
-unfolding motor_refusal
-settings_right held scans number s h = not-false _ (if_zero (not (settings_in_range s)) 4 _ (lit< tt) h).0
+unfolding motor_refusal when◌then◌else◌
+settings_right held scans number s h = grind (arith, nat_tests)
 
 pub word_right : (held number word : ℕ) → input_refusal held number word ≡ 0 → word_ok word ≡ true
-unfolding input_refusal
-word_right held number word h =
-    let a = if_zero (not (is_there held number)) 10 _ (lit< tt) h in
-    not-false _ (if_zero (not (word_ok word)) 3 0 (lit< tt) a.1).0
+unfolding input_refusal when◌then◌else◌
+word_right held number word h = grind (arith, nat_tests)
 
 sound_motor : (t : State) (number : ℕ) (s : Settings) → Sound t → motor_refusal (length t.motors) t.scans number s ≡ 0 → Sound (with_motor t s)
 unfolding with_motor word_ok
 sound_motor t number s h e =
-    let a = length-append t.motors (fresh s ∷ []) in
     record {
-      lengths = omega (arith, a, length-append t.words (0 ∷ []), h.lengths);
-      room = omega (arith, a, motor_room _ _ _ _ e);
-      records = list_all-append in_range t.motors (fresh s ∷ []) ∙ rw (h.records, fresh_in_range s (settings_right _ _ _ _ e)) refl;
-      words = list_all-append word_ok t.words (0 ∷ []) ∙ rw h.words refl;
+      lengths = grind (arith, length-append, h.lengths);
+      room = grind (arith, length-append, motor_room);
+      records = grind (arith, nat_tests, list_all-append, fresh_in_range, settings_right, h.records);
+      words = grind (arith, nat_tests, list_all-append, h.words);
     }
 
 sound_word : (t : State) (number word : ℕ) → Sound t → input_refusal (length t.motors) number word ≡ 0 → Sound (with_word t number word)
 unfolding with_word with_words
 sound_word t number word h e =
     record {
-      lengths = h.lengths ∙ sym (length-set t.words (number - 1) word);
+      lengths = grind (arith, length-set {A = ℕ}, h.lengths);
       room = h.room;
       records = h.records;
       words = all_set word_ok t.words (number - 1) word h.words (word_right _ _ _ e);
@@ -86,10 +79,9 @@ sound_word t number word h e =
 sound_scan : (t : State) (period : ℕ) → Sound t → Sound (with_scan t period)
 unfolding with_scan
 sound_scan t period h =
-    let a = length_after t.motors t.words period in
     record {
-      lengths = a ∙ h.lengths;
-      room = omega (arith, a, h.room);
+      lengths = length_after t.motors t.words period ∙ h.lengths;
+      room = grind (arith, length_after, h.room);
       records = after_in_range t.motors t.words period h.records h.words;
       words = h.words;
     }
@@ -103,11 +95,10 @@ sound_changed t Refused h e = h
 
 pub sound_after : (t : State) (r : Request) → Sound t → Sound (state_after t r)
 unfolding state_after when◌then◌else◌
-sound_after t r h = go (eqb (refusal_for t r) 0) refl
-  where
-    go : (b : Bool) → eqb (refusal_for t r) 0 ≡ b → Sound (when b then changed t r else t)
-    go true e = sound_changed t r h (eqb-true _ _ e)
-    go false e = h
+sound_after t r h = elim (eqb (refusal_for t r) 0) as (λ b. eqb (refusal_for t r) 0 ≡ b → Sound (when b then changed t r else t)) [
+  | true ↦ λ e. sound_changed t r h (eqb-true _ _ e)
+  | false ↦ λ e. h
+] refl
 
 pub sound_through : (t : State) (rs : List Request) → Sound t → Sound (states_after t rs)
 unfolding states_after
@@ -116,14 +107,9 @@ sound_through t (r ∷ rs) h = sound_through (state_after t r) rs (sound_after t
 
 -- ---- so that only the period is left to refuse
 
-not_not : (b : Bool) → ◌≡◌ {A = ℕ} (when not b then 2 else 0) (when b then 0 else 2)
-unfolding when◌then◌else◌
-not_not true = refl
-not_not false = refl
-
 scan_by_period : (t : State) (period : ℕ) → Sound t → scan_refusal t period ≡ (when period_ok period then 0 else 2)
 unfolding scan_refusal table_refusal misfit when◌then◌else◌
-scan_by_period t period h = rw (eq-eqb (length t.motors) (length t.words) h.lengths, le-ltb most_motors (length t.motors) h.room, h.records, h.words) (not_not (period_ok period))
+scan_by_period t period h = grind (arith, nat_tests, h.lengths, h.room, h.records, h.words)
 
 -- S is refused by 2, exactly where the period is outside 1 to 10,000, or not at all
 pub scan_refused_by_2 : (rs : List Request) (period : ℕ) → refusal_for (states_after empty_state rs) (S period) ≡ (when period_ok period then 0 else 2)

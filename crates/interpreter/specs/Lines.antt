@@ -13,7 +13,7 @@ use Rattle.interpreter.specs.declared.lines.Inputs.{Inputs}
 abbrev pub NoInput : List ℕ → ℕ → ℕ → Type 0
 NoInput file held at = (number word next : ℕ) → next_at file at ≡ Some (I number word, next) → input_refusal held number word ≡ 0 → ⊥
 
--- It is one, this.
+-- It is such a line, and this one.
 abbrev pub Found : List ℕ → ℕ → ℕ → InputLine → Type 0
 Found file held at l = (next_at file at ≡ Some (I l.number l.word, l.next)) × (input_refusal held l.number l.word ≡ 0)
 

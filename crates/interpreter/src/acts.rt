@@ -73,12 +73,13 @@ pub fn accept_input(held: usize, number: u32, word: u32) -> Result<(), Refusal>
 }
 
 // The totals of some motors after a scan of them, by their records before it and after it.
-#[tactic(auto, using(totals::proofs::Lists::none_taken, crate::proofs::ActLaws::counted_more))]
+#[tactic(auto, using(rules::proofs::Tables::step_all_at, totals::proofs::Lists::none_taken, totals::proofs::Lists::one_counted), unfolding(totals::specs::Running::scan_totals))]
 fn count_scan(totals: &mut [Totals], before: &[Motor], after: &[Motor], words: &[u32], period: u32)
     requires sizes { (length before.now ≡ length totals.old) × (length after.now ≡ length totals.old) × (length words.now ≡ length totals.old) }
     requires stepped { after.now ≡ step_all before.now words.now period }
     ensures { totals.new ≡ all_totals totals.old before.now words.now period }
 {
+    // by index: in a walk over all four side by side a proof has no name for the totals counted so far
     for i in 0..totals.len() {
         let was = before[i];
         let reading = read(was.settings, words[i]);
@@ -169,14 +170,14 @@ impl Bench {
     }
 
     // S: the table's scan.
-    #[tactic(auto, using(crate::proofs::ActLaws::stepped, crate::proofs::ActLaws::refused, crate::proofs::ActLaws::scan_code, crate::proofs::ActLaws::unscanned, crate::proofs::ActLaws::scanned), unfolding(rules::specs::Refusals::most_motors))]
+    #[tactic(auto, using(std::proofs::lemmas::Grind::common_steps, rules::proofs::Tables::table_accepted, rules::proofs::Tables::table_refused, rules::proofs::Tables::length_after, crate::proofs::ActLaws::refused, crate::proofs::ActLaws::scan_code, crate::proofs::ActLaws::scanned), unfolding(rules::specs::Refusals::most_motors))]
     fn scan(&mut self, period: u32) -> Result<(), Refusal>
         ensures refusal { code_of result ≡ refusal_for (view_of self.old) (S period) }
         ensures state { view_of self.new ≡ state_after (view_of self.old) (S period) }
         ensures unchanged { OnErr result (self.new ≡ self.old) }
     {
         let held = self.held();
-        // the scan's totals go by the motors before it
+        // the totals go by the motors before the scan
         let before = *self;
         table::scan(&mut self.motors[..held], &before.words[..held], period)?;
         let after = self.motors;
