@@ -1,16 +1,11 @@
 -- Every motor of a bench that began empty is one that demand 3 follows: it was fresh when its M line added it, and each accepted S line
 -- since is a scan of the whole table with the words that the motors held. Its history, as the lines of a file make it, is the one that demand 3
 -- and the claim on the totals speak of. Assumes nothing.
-use Prim.Native.Nat.{ℕ, zero, suc, ◌<◌}
-use mathlib.Core.Path.{◌≡◌, refl, sym, ap, ◌∙◌}
-use mathlib.Core.Bool.{Bool, true, false}
-use mathlib.Core.List.{List, [], ◌∷◌, ◌++◌, map, map-append}
-use native.Mathlib.Omega.{arith}
+use Rattle.std.proofs.Common.{ℕ, zero, suc, ◌<◌, ◌≡◌, refl, sym, ap, ◌∙◌, true, false, List, [], ◌∷◌, ◌++◌, map, arith, eqb, length, get_or, length-append, eqb-true}
+use mathlib.Core.List.{map-append}
 use native.Mathlib.Decide.{dec_lt}
-use lib.Dec.{eqb}
-use lib.ListN.{length, get_or, length-map, length-append, get_or-map, get_or-append}
+use lib.ListN.{length-map, get_or-map, get_or-append}
 use lib.Seq.{get_or-append_seam}
-use borrow.Author.Tests.{eqb-true}
 use Rattle.words.specs.Word.{when◌then◌else◌}
 use Rattle.rules.specs.Refusals.{table_after}
 use Rattle.rules.specs.declared.Motor.{Motor}
@@ -54,7 +49,7 @@ fresh_entered : (hs : List History) (words : List ℕ) (period : ℕ) → map fr
 unfolding entered
 fresh_entered [] words period = refl
 fresh_entered (h ∷ hs) [] period = refl
-fresh_entered (h ∷ hs) (word ∷ words) period = ap (λ (l : List Motor). fresh_in h ∷ l) (fresh_entered hs words period)
+fresh_entered (h ∷ hs) (word ∷ words) period = rw (fresh_entered hs words period) refl
 
 entered_at : (hs : List History) (words : List ℕ) (period j : ℕ) → j < length hs → j < length words
     → get_or (entered hs words period) j unheld ≡ record { settings = (get_or hs j unheld).settings; scans = (get_or hs j unheld).scans ▸ record { word = get_or words j 0; period = period } }
@@ -80,9 +75,7 @@ none_entered hs h e a j l = go (dec_lt j (length hs))
   where
     go : Dec (j < length hs) → (get_or (hs ++ (h ∷ [])) j unheld).scans ≡ none
     go (yes k) = rw (get_or-append hs (h ∷ []) unheld j k) (a j k)
-    go (no k) =
-        let i : j ≡ length hs = omega (arith, length-append hs (h ∷ [])) in
-        rw (i, get_or-append_seam hs h [] unheld) e
+    go (no k) = let i : j ≡ length hs = grind (arith, length-append) in rw (i, get_or-append_seam hs h [] unheld) e
 
 -- a scan more
 scan_histories : (t : State) (hs : List History) (os : Log Order) (period : ℕ) → scan_refusal t period ≡ 0 → Run t hs os
@@ -123,11 +116,12 @@ run_through : (t : State) (rs : List Request) {hs : List History} {os : Log Orde
     → Run (states_after t rs) (histories_from hs t rs) (orders_from os t rs)
 unfolding states_after state_after histories_from orders_from when◌then◌else◌
 run_through t [] a = a
-run_through t (r ∷ rs) {hs} {os} a = run_through (state_after t r) rs (one (eqb (refusal_for t r) 0) refl)
-  where
-    one : (b : Bool) → eqb (refusal_for t r) 0 ≡ b → Run (when b then changed t r else t) (when b then histories_after hs t r else hs) (when b then ordered os t r else os)
-    one true e = run_on r (eqb-true _ _ e) a
-    one false e = a
+run_through t (r ∷ rs) {hs} {os} a =
+    run_through (state_after t r) rs
+    (elim (eqb (refusal_for t r) 0) as (λ b. eqb (refusal_for t r) 0 ≡ b → Run (when b then changed t r else t) (when b then histories_after hs t r else hs) (when b then ordered os t r else os)) [
+      | true ↦ λ e. run_on r (eqb-true _ _ e) a
+      | false ↦ λ e. a
+    ] refl)
 
 -- ---- from the empty bench on, whatever is asked of it
 

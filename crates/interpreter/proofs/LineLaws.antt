@@ -1,17 +1,11 @@
 -- Runs of I lines, and which line stands at a place. Assumes nothing.
 use Rattle.std.specs.List.{list_all}
-use Prim.Native.Nat.{ℕ, ◌-◌, ◌≤◌}
-use mathlib.Core.Path.{◌≡◌, refl, ◌∙◌}
-use mathlib.Core.Bool.{true}
-use mathlib.Core.List.{List}
-use native.Mathlib.Omega.{arith}
-use lib.ListN.{length, take, set, length-set}
+use Rattle.std.proofs.Common.{ℕ, ◌-◌, ◌≤◌, ◌≡◌, refl, ◌∙◌, true, List, arith, length, take, set, length-set, Option, Some}
 use lib.Seq.{take-set-lt}
 use Rattle.rules.specs.Refusals.{word_ok}
 use Rattle.sheet.specs.declared.Request.{Request}
-use Rattle.std.specs.Prelude.{Option, Some, None}
-use Rattle.std.proofs.lemmas.Option.{none-some, some_pair_parts}
-use Rattle.sheet.specs.declared.Request.TheVariants.{Input as I, Scan as S}
+use Rattle.std.proofs.lemmas.Option.{some_pair_parts}
+use Rattle.sheet.specs.declared.Request.TheVariants.{Input as I}
 use Rattle.sheet.proofs.RequestLaws.{taken}
 use Rattle.interpreter.specs.State.{input_refusal}
 use Rattle.interpreter.specs.Lines.{InputLines}
@@ -22,9 +16,7 @@ use Rattle.interpreter.proofs.Kept.{all_set, word_right}
 -- the word of an accepted I line is in its range
 word_kept : (words : List ℕ) (number word held : ℕ) → input_refusal held number word ≡ 0 → list_all word_ok (take held words) ≡ true
     → list_all word_ok (take held (set words (number - 1) word)) ≡ true
-word_kept words number word held h e =
-    let n = input_there held number word h in
-    rw (take-set-lt held words (number - 1) word (omega (arith, n.0, n.1))) (all_set word_ok (take held words) (number - 1) word e (word_right held number word h))
+word_kept words number word held h e = grind (arith, take-set-lt, all_set, input_there, word_right)
 
 module _ {file words : List ℕ} {held at line : ℕ} where
   -- as many words as before, in their range if they were
@@ -46,23 +38,7 @@ module _ {file words : List ℕ} {held at line : ℕ} where
   inside none l = l
   inside (one_more {here = here} {number} {word} {next} s found h) l = (taken file here (I number word) next found).within
 
--- ---- which line stands at a place
+-- ---- which request stands at a place
 
--- no line
-pub no_line : {period next : ℕ} → ◌≡◌ {A = Option (Request × ℕ)} None (Some (S period, next)) → ⊥
-no_line e = none-some _ e
-
--- the request that stands there
 pub same_request : {r r' : Request} {next next' : ℕ} → ◌≡◌ {A = Option (Request × ℕ)} (Some (r, next)) (Some (r', next')) → r ≡ r'
 same_request e = (some_pair_parts _ _ _ _ e).0
-
--- an S line of this period
-pub same_period : {period next period' next' : ℕ} → ◌≡◌ {A = Option (Request × ℕ)} (Some (S period, next)) (Some (S period', next')) → period ≡ period'
-same_period e = let r = (some_pair_parts _ _ _ _ e).0 in cc
-
--- and of I lines
-pub no_input_line : {number word next : ℕ} → ◌≡◌ {A = Option (Request × ℕ)} None (Some (I number word, next)) → ⊥
-no_input_line e = none-some _ e
-
-pub same_input : {number word next number' word' next' : ℕ} → ◌≡◌ {A = Option (Request × ℕ)} (Some (I number word, next)) (Some (I number' word', next')) → (number ≡ number') × (word ≡ word')
-same_input e = let r = (some_pair_parts _ _ _ _ e).0 in (cc, cc)

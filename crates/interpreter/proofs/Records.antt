@@ -1,8 +1,7 @@
 -- The motors of a bench are the records of their histories: what the ten steps make of fresh ones over the scans that the lines entered. Assumes
 -- nothing.
-use Prim.Native.Nat.{ℕ}
-use mathlib.Core.Path.{◌≡◌, refl, ap, ◌∙◌}
-use mathlib.Core.List.{List, [], ◌∷◌, map, map-append}
+use Rattle.std.proofs.Common.{ℕ, ◌≡◌, refl, ap, ◌∙◌, List, [], ◌∷◌, map}
+use mathlib.Core.List.{map-append}
 use Rattle.rules.specs.declared.Motor.{Motor}
 use Rattle.rules.specs.Steps.{step}
 use Rattle.rules.specs.Refusals.{step_all}

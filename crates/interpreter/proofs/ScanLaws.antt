@@ -1,14 +1,8 @@
 -- A scan motor by motor: each motor in use is accepted by itself exactly where the table of them is. Assumes nothing.
 use Rattle.std.specs.List.{list_all}
-use Prim.Native.Nat.{ℕ, ◌<◌, ◌≤◌, min}
-use mathlib.Core.Path.{◌≡◌, refl, sym, ap, ◌∙◌}
-use mathlib.Core.Bool.{true, false, false≢true}
-use mathlib.Core.List.{List}
-use native.Mathlib.Nat.{min-le_right}
-use native.Mathlib.Omega.{arith}
-use lib.ListN.{length, get_or, take}
-use lib.Seq.{get_or-take, length-take-le}
-use borrow.Author.Tests.{leb-true, eq-eqb, le-ltb}
+use Rattle.std.proofs.Common.{ℕ, ◌<◌, ◌≤◌, ◌≡◌, refl, ◌∙◌, true, false, List, arith, length, get_or, take, leb-true}
+use Rattle.std.proofs.lemmas.Bool.Decides.{nat_tests}
+use Rattle.std.proofs.lemmas.Grind.{common_steps}
 use Rattle.words.specs.Word.{when◌then◌else◌}
 use Rattle.rules.specs.declared.Motor.{Motor}
 use Rattle.rules.specs.Record.{with_status}
@@ -17,11 +11,12 @@ use Rattle.rules.specs.Resting.{rests, rested_status}
 use Rattle.rules.specs.Refusals.{most_motors, in_range, word_ok, period_ok, misfit, one_refusal, table_refusal, part_refusal, part_after}
 use Rattle.rules.proofs.Range.{one_in_limits, steppable}
 use Rattle.rules.proofs.Resting.{resting}
-use Rattle.rules.proofs.Tables.{list_all_each, one_accepts, Accepted, accepted, part_front}
+use Rattle.rules.proofs.Tables.{list_all_each, one_accepts, accepted, part_front}
 use Rattle.sheet.specs.declared.Request.TheVariants.{Scan as S}
-use Rattle.interpreter.specs.State.{State, scan_refusal, refusal_for, view_of}
+use Rattle.interpreter.specs.State.{State, scan_refusal, refusal_for, view_of, held_of}
+use Rattle.interpreter.specs.Lines.{ReadyBench}
 use Rattle.interpreter.specs.declared.Bench.{Bench}
-use Rattle.interpreter.proofs.ActLaws.{take_used, in_array, scan_refusal_lem}
+use Rattle.interpreter.proofs.ActLaws.{in_array, scan_code}
 use Rattle.interpreter.proofs.Kept.{after_in_range}
 
 -- ---- a motor at rest
@@ -39,47 +34,31 @@ module _ (motors : List Motor) (words : List ℕ) (held : ℕ) (few : held ≤ m
   module _ (records : list_all in_range (take held motors) ≡ true) (right : list_all word_ok (take held words) ≡ true) (period : ℕ) (time : period_ok period ≡ true) where
     -- each is accepted by itself
     pub due : (i : ℕ) (d : Motor) → i < held → one_refusal (get_or motors i d) (get_or words i 0) period ≡ 0
-    due i d l =
-        one_accepts (get_or motors i d) (get_or words i 0) period
-        (sym (ap in_range (get_or-take held motors i d l)) ∙ list_all_each in_range (take held motors) i d records (omega (arith, length-take-le held motors (in_array held motors is few))))
-        time
-        (sym (ap word_ok (get_or-take held words i 0 l)) ∙ list_all_each word_ok (take held words) i 0 right (omega (arith, length-take-le held words (in_array held words js few))))
+    unfolding most_motors
+    due i d l = grind (arith, common_steps, one_accepts, list_all_each)
 
     -- and so is the table of them
     pub all_due : part_refusal motors held words period ≡ 0
-    unfolding part_refusal table_refusal misfit when◌then◌else◌
-    all_due =
-        let a = length-take-le held motors (in_array held motors is few) in
-        let b = length-take-le held words (in_array held words js few) in
-        rw (le-ltb most_motors held few, eq-eqb (length (take held motors)) (length (take held words)) (a ∙ sym b), le-ltb most_motors (length (take held motors)) (omega (arith, a)), records, right, time)
+    unfolding part_refusal table_refusal misfit most_motors when◌then◌else◌
+    all_due = grind (arith, nat_tests, common_steps)
 
     pub range_kept : list_all in_range (take held (part_after motors held words period)) ≡ true
     range_kept = rw (part_front motors held words period few (in_array held motors is few)) (after_in_range (take held motors) (take held words) period records right)
 
 -- ---- a bench of which a scan is accepted
 
-one_right : period_ok 1 ≡ true
-unfolding period_ok
-one_right = refl
+-- where one of period 1 is, records and words are in range
+pub ready_if : (b : Bench) → length b.motors ≡ 32 → length b.words ≡ 32 → refusal_for (view_of b) (S 1) ≡ 0 → ReadyBench b
+ready_if b is js h =
+    let a = accepted (take (held_of b) b.motors) (take (held_of b) b.words) 1 (scan_code b is js 1 refl ∙ h) in
+    record { records = a.records; words = a.words }
 
-module _ (b : Bench) (is : length b.motors ≡ 32) (js : length b.words ≡ 32) where
-  accepting : (period : ℕ) → refusal_for (view_of b) (S period) ≡ 0
-      → Accepted (take (min b.count most_motors) b.motors) (take (min b.count most_motors) b.words) period
-  unfolding refusal_for scan_refusal
-  accepting period h = rw (← take_used b.count b.motors is, ← take_used b.count b.words js) (accepted (take b.count b.motors) (take b.count b.words) period h)
-
-  -- where one of period 1 is, records and words are in range
-  pub ready_if : part_refusal b.motors (min b.count most_motors) b.words 1 ≡ 0
-      → (list_all in_range (take (min b.count most_motors) b.motors) ≡ true) × (list_all word_ok (take (min b.count most_motors) b.words) ≡ true)
-  ready_if h = let a = accepting 1 (sym (scan_refusal_lem b is js 1) ∙ h) in (a.records, a.words)
-
-  -- and where it is not, none is
-  pub unready : (period : ℕ) → (part_refusal b.motors (min b.count most_motors) b.words 1 ≡ 0 → ⊥) → refusal_for (view_of b) (S period) ≡ 0 → ⊥
-  unready period n h =
-      let a = accepting period h in
-      n (all_due b.motors b.words (min b.count most_motors) (min-le_right b.count most_motors) is js a.records a.words 1 one_right)
+-- and where it is not, none is
+pub unready : (t : State) (period : ℕ) → (refusal_for t (S 1) ≡ 0 → ⊥) → refusal_for t (S period) ≡ 0 → ⊥
+unfolding refusal_for scan_refusal table_refusal period_ok when◌then◌else◌
+unready t period n h = grind (arith, nat_tests)
 
 -- none is with a period out of range
 pub untimely : (t : State) (period : ℕ) → period_ok period ≡ false → refusal_for t (S period) ≡ 0 → ⊥
-unfolding refusal_for scan_refusal
-untimely t period e h = false≢true (sym e ∙ (accepted t.motors t.words period h).period)
+unfolding refusal_for scan_refusal table_refusal when◌then◌else◌
+untimely t period e h = grind (arith, nat_tests)

@@ -1,30 +1,21 @@
 -- Lines read ahead of what they do: runs of I lines, which change nothing but the words that the motors hold, and S lines.
 use Rattle.std.specs.List.{list_all}
-use Rattle.std.specs.Prelude.{ℕ, ◌-◌, min, ◌≡◌, true, false, List, set, take, Some}
-use Rattle.rules.specs.Refusals.{most_motors, in_range, word_ok, period_ok}
+use Rattle.std.specs.Prelude.{ℕ, ◌-◌, ◌≡◌, true, false, List, set, take, Option, Some, None}
+use Rattle.rules.specs.Refusals.{in_range, word_ok, period_ok}
 use Rattle.sheet.specs.Grammar.{next_at}
 use Rattle.sheet.specs.declared.Request.TheVariants.{Input as I, Scan as S}
-use Rattle.interpreter.specs.State.{next_number, input_refusal}
+use Rattle.interpreter.specs.State.{next_number, input_refusal, held_of}
 use Rattle.interpreter.specs.declared.Bench.{Bench}
-use Rattle.interpreter.specs.declared.lines.NextInput.{NextInput}
-use Rattle.interpreter.specs.declared.lines.NextInput.TheVariants.{Word, Other}
+use Rattle.interpreter.specs.declared.lines.InputLine.{InputLine}
 use Rattle.interpreter.specs.declared.lines.Inputs.{Inputs}
-use Rattle.interpreter.specs.declared.lines.NextScan.{NextScan}
-use Rattle.interpreter.specs.declared.lines.NextScan.TheVariants.{Period, Other as Stop}
 
 -- The line at a place is no I line that is accepted where so many motors are held.
 abbrev pub NoInput : List ℕ → ℕ → ℕ → Type 0
 NoInput file held at = (number word next : ℕ) → next_at file at ≡ Some (I number word, next) → input_refusal held number word ≡ 0 → ⊥
 
--- The line at a place is an I line that is accepted where so many motors are held; of any other answer nothing is said.
-abbrev pub Found : List ℕ → ℕ → ℕ → NextInput → Type 0
-Found file held at (Word number word next) = (next_at file at ≡ Some (I number word, next)) × (input_refusal held number word ≡ 0)
-Found file held at Other = Unit {0}
-
--- And none is missed: after any other answer no such line stands there.
-abbrev pub NoneMissed : List ℕ → ℕ → ℕ → NextInput → Type 0
-NoneMissed file held at (Word number word next) = Unit {0}
-NoneMissed file held at Other = NoInput file held at
+-- It is such a line, and this one.
+abbrev pub Found : List ℕ → ℕ → ℕ → InputLine → Type 0
+Found file held at l = (next_at file at ≡ Some (I l.number l.word, l.next)) × (input_refusal held l.number l.word ≡ 0)
 
 -- I lines accepted one after another, from a place on: the words, the place and the line's number that they lead to
 pub data InputLines (file : List ℕ) (held : ℕ) (words : List ℕ) (at line : ℕ) : List ℕ → ℕ → ℕ → Type 0 where
@@ -37,12 +28,12 @@ pub record InputRun (file : List ℕ) (held : ℕ) (words : List ℕ) (at line :
   pub lines : InputLines file held words at line r.words r.at r.line
   pub over : NoInput file held r.at
 
--- The line at a place is an S line, and its period is one of a scan; after any other answer it is not.
-abbrev pub FoundScan : List ℕ → ℕ → NextScan → Type 0
-FoundScan file at (Period period next) = (next_at file at ≡ Some (S period, next)) × (period_ok period ≡ true)
-FoundScan file at Stop = (period next : ℕ) → next_at file at ≡ Some (S period, next) → period_ok period ≡ false
+-- The line at a place is an S line, and its period is one of a scan; after None it is not.
+abbrev pub FoundScan : List ℕ → ℕ → Option (ℕ × ℕ) → Type 0
+FoundScan file at (Some scan) = (next_at file at ≡ Some (S scan.0, scan.1)) × (period_ok scan.0 ≡ true)
+FoundScan file at None = (period next : ℕ) → next_at file at ≡ Some (S period, next) → period_ok period ≡ false
 
 -- What a scan of a bench needs besides its period: every record and every word in use is in its range.
 pub record ReadyBench (b : Bench) : Type 0 where
-  pub records : list_all in_range (take (min b.count most_motors) b.motors) ≡ true
-  pub words : list_all word_ok (take (min b.count most_motors) b.words) ≡ true
+  pub records : list_all in_range (take (held_of b) b.motors) ≡ true
+  pub words : list_all word_ok (take (held_of b) b.words) ≡ true

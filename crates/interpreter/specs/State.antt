@@ -119,3 +119,7 @@ view_of b =
       words = take b.count b.words;
       scans = b.scans;
     }
+
+-- How many motors a bench has: a count past its arrays counts as all of them.
+abbrev pub held_of : Bench → ℕ
+held_of b = min b.count most_motors

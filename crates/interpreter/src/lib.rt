@@ -1,18 +1,19 @@
-// The bench: its state by value, and what a line of a file does to it. The meanings are definitions in specs/. They fix what open functions
+// The bench: its state, and what a line of a file does to it. The meanings are definitions in specs/. They fix what open functions
 // answer on any input, but for what lies past the motors of a bench (`view_of`).
 #![tactic(auto)]
 
 mod acts;
 mod lines;
 
-pub use acts::{act, empty, in_use, is_too_long, next_number, scan_refusal};
-pub use lines::{Inputs, NextScan, next_scan, take_inputs};
+pub use acts::{is_too_long, next_number};
+pub use lines::{Inputs, next_scan};
 use rules::Motor;
 use table::MOST_MOTORS;
 use totals::Totals;
 
-// The first `count` elements of the arrays are in use: the motors by rising number, the word that each holds, and their totals,
-// which stand last, since a bench is copied faster so.
+// The first `count` elements of the arrays are in use: the motors by rising number, the word that each holds, and their totals.
+// Arrays with a count, since there is no heap; one of each kind, since a scan lends the motors and the words as two slices; the
+// totals last, since a bench is copied faster so. No invariant keeps the count within the arrays: it would take fewer benches.
 #[derive(Clone, Copy)]
 pub struct Bench {
     pub motors: [Motor; MOST_MOTORS],
@@ -20,11 +21,4 @@ pub struct Bench {
     pub count: usize,
     pub scans: u32,
     pub totals: [Totals; MOST_MOTORS],
-}
-
-// What a request makes: its refusal, 0 if it is accepted, and the bench after it.
-#[derive(Clone, Copy)]
-pub struct Acted {
-    pub refusal: u32,
-    pub bench: Bench,
 }

@@ -1,20 +1,21 @@
 // Lines read ahead of what they do: runs of I lines, which touch nothing but the words that the motors hold, and S lines.
-ghost use Rattle.std.specs.Prelude.{min};
+ghost use Rattle.std.specs.Prelude.{◌≡◌, min, IfSome, IfNone};
 ghost use Rattle.rules.specs.Refusals.{most_motors};
-ghost use Rattle.interpreter.specs.Lines.{Found, NoneMissed, InputRun, FoundScan};
+ghost use Rattle.interpreter.specs.Lines.{Found, NoInput, InputRun, FoundScan};
 
-use crate::acts::{in_use, input_refusal, next_number};
+use crate::acts::{accept_input, next_number};
 use sheet::{Request, next_request};
 use table::MOST_MOTORS;
 
-// An I line that is accepted, with the place of the next line; or any other line.
+// An I line that is accepted, and the place of the next line.
 #[derive(Clone, Copy)]
-pub enum NextInput {
-    Word { number: u32, word: u32, next: usize },
-    Other,
+struct InputLine {
+    number: u32,
+    word: u32,
+    next: usize,
 }
 
-// The words after a run of I lines, and the place and number of the next line.
+// The words that the motors hold, at a place of a file, where the line of this number begins.
 #[derive(Clone, Copy)]
 pub struct Inputs {
     pub words: [u32; MOST_MOTORS],
@@ -22,71 +23,45 @@ pub struct Inputs {
     pub line: u32,
 }
 
-fn next_input(file: &[u8], held: usize, at: usize) -> NextInput
-    ensures found { Found file.now held at result }
-    ensures missed { NoneMissed file.now held at result }
+#[tactic(auto, using(sheet::proofs::PlaceLaws::other_at, sheet::proofs::RequestLaws::input_begins))]
+fn next_input(file: &[u8], held: usize, at: usize) -> Option<InputLine>
+    ensures found { IfSome result (λ input. Found file.now held at input) }
+    ensures missed { IfNone result (NoInput file.now held at) }
 {
     // no line but one that begins with I need be read twice
     if !sheet::is_at(file, at, b'I') {
-        return NextInput::Other;
+        return None;
     }
-    let Some((request, next)) = next_request(file, at) else {
-        return NextInput::Other;
-    };
+    let (request, next) = next_request(file, at)?;
     let Request::Input { number, word } = request else {
-        return NextInput::Other;
+        return None;
     };
-    if input_refusal(held, number, word) == 0 {
-        return NextInput::Word { number, word, next };
-    }
-    NextInput::Other
+    accept_input(held, number, word).ok()?;
+    Some(InputLine { number, word, next })
 }
 
-// The I lines from a place on, up to the first line that is refused or of another kind.
-#[tactic(auto, using(crate::proofs::ActLaws::input_there), unfolding(rules::specs::Refusals::most_motors))]
-pub fn take_inputs(
-    file: &[u8],
-    count: usize,
-    words: [u32; MOST_MOTORS],
-    at: usize,
-    line: u32,
-) -> Inputs
-    ensures { InputRun file.now (min count most_motors) words at line result }
-{
-    let held = in_use(count);
-    let mut words = words;
-    let mut at = at;
-    let mut line = line;
-    loop {
-        let NextInput::Word { number, word, next } = next_input(file, held, at) else {
-            return Inputs { words, at, line };
-        };
-        let i = number as usize - 1;
-        words[i] = word;
-        at = next;
-        line = next_number(line);
+impl Inputs {
+    // The I lines from here on, up to the first line that is refused or of another kind.
+    #[tactic(auto, using(crate::proofs::ActLaws::input_there), unfolding(rules::specs::Refusals::most_motors))]
+    pub fn take(&mut self, file: &[u8], count: usize)
+        ensures { InputRun file.now (min count most_motors) self.old.words self.old.at self.old.line self.new }
+    {
+        let held = count.min(MOST_MOTORS);
+        while let Some(input) = next_input(file, held, self.at) {
+            self.words[input.number as usize - 1] = input.word;
+            self.at = input.next;
+            self.line = next_number(self.line);
+        }
     }
 }
 
-// An S line whose period is one of a scan, with the place of the next line; or any other line.
-#[derive(Clone, Copy)]
-pub enum NextScan {
-    Period { period: u32, next: usize },
-    Other,
-}
-
-// What stands at a place of a file.
-pub fn next_scan(file: &[u8], at: usize) -> NextScan
+// The S line at a place of a file, if its period is one of a scan: the period, and the place of the next line.
+pub fn next_scan(file: &[u8], at: usize) -> Option<(u32, usize)>
     ensures { FoundScan file.now at result }
 {
-    let Some((request, next)) = next_request(file, at) else {
-        return NextScan::Other;
-    };
+    let (request, next) = next_request(file, at)?;
     let Request::Scan { period } = request else {
-        return NextScan::Other;
+        return None;
     };
-    if motor::is_period_ok(period) {
-        return NextScan::Period { period, next };
-    }
-    NextScan::Other
+    motor::is_period_ok(period).then_some((period, next))
 }
