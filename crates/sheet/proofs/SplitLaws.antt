@@ -5,7 +5,6 @@ use mathlib.Core.Bool.{Bool, true, false}
 use mathlib.Core.List.{List, [], ◌∷◌, ◌++◌}
 use native.Mathlib.Omega.{arith}
 use native.Mathlib.Decide.{dec_le, dec_lt}
-use native.Mathlib.Nat.{sub-zero}
 use lib.ListN.{length, take, drop, get_or, length-append, length-drop, drop_of_length-le}
 use lib.Seq.{drop-cons, take_all, take-nil, take-suc}
 use lib.Dec.{eqb}

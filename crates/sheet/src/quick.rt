@@ -86,6 +86,7 @@ fn ends_line(file: &[u8], at: usize, end: usize) -> bool
 }
 
 // The request of a line that begins with an S.
+#[tactic(auto, using(crate::proofs::PlaceLaws::number_said, crate::proofs::PlaceLaws::begun_inside, crate::proofs::PlaceLaws::ended_inside, crate::proofs::PlaceLaws::scan_next), unfolding(crate::specs::Places::Read))]
 fn scan_at(file: &[u8], at: usize) -> Option<(Request, usize)>
     requires { begins_with file.now at letter_s ≡ true }
     ensures { IfSome result (λ r. next_at file.now at ≡ Some r) }

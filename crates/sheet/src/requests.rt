@@ -21,7 +21,10 @@ pub const SCAN: u8 = b'S';
 fn letter(field: &[u8]) -> u8
     ensures { result ≡ letter_of field.now }
 {
-    if field.len() == 1 { field[0] } else { 0 }
+    match field {
+        [b] => *b,
+        _ => 0,
+    }
 }
 
 // The number that a field of a line says.
@@ -73,21 +76,17 @@ fn scan(line: &[u8]) -> Option<Request>
 }
 
 // The request that a line makes.
+#[tactic(auto, unfolding(words::specs::Opened::choices, crate::specs::Grammar::request_of, crate::specs::Grammar::is_kind))]
 pub fn parse(line: &[u8]) -> Request
     ensures { result ≡ request_of line.now }
 {
-    let kind = letter(field(line, 0));
-    let count = count_fields(line);
-    if (kind == MOTOR) & (count == 6) {
-        return motor(line).unwrap_or(Request::Refused);
-    }
-    if (kind == INPUT) & (count == 3) {
-        return input(line).unwrap_or(Request::Refused);
-    }
-    if (kind == SCAN) & (count == 2) {
-        return scan(line).unwrap_or(Request::Refused);
-    }
-    Request::Refused
+    let request = match (letter(field(line, 0)), count_fields(line)) {
+        (MOTOR, 6) => motor(line),
+        (INPUT, 3) => input(line),
+        (SCAN, 2) => scan(line),
+        _ => None,
+    };
+    request.unwrap_or(Request::Refused)
 }
 
 // The request of the line at a place of a file, and the place after that line. After one that is empty, too long or without LF
