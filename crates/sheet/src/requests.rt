@@ -1,5 +1,6 @@
 // The request that a line makes.
 ghost use Rattle.std.specs.Prelude.{◌≡◌, unwrap_or};
+ghost use Rattle.rules.specs.Numbers.{code_of};
 ghost use Rattle.sheet.specs.declared.Request.TheVariants.{Refused};
 ghost use Rattle.sheet.specs.Grammar.{letter_of, number_in, word_in, motor_of, input_of, scan_of, request_of, next_at, request_refusal};
 
@@ -8,6 +9,7 @@ use crate::lines::{next_line, part};
 use crate::numbers::read_number;
 use crate::word_fields::read_word;
 use crate::{Line, Request};
+use rules::Refusal;
 
 // The first field of a line of each kind.
 const MOTOR: u8 = b'M';
@@ -102,15 +104,13 @@ pub fn request_at(file: &[u8], at: usize) -> Option<(Request, usize)>
     }
 }
 
-// The paper's number for a refused line, and 0 for any other.
+// Whether a line makes a request at all; the paper's refusal of one that makes none.
 #[tactic(auto, unfolding(crate::specs::Grammar::request_refusal))]
-pub fn refusal(request: Request) -> u32
-    ensures { result ≡ request_refusal request }
+pub fn accept(request: Request) -> Result<(), Refusal>
+    ensures { code_of result ≡ request_refusal request }
 {
     match request {
-        Request::Motor { .. } => 0,
-        Request::Input { .. } => 0,
-        Request::Scan { .. } => 0,
-        Request::Refused => 5,
+        Request::Refused => Err(Refusal::Line),
+        _ => Ok(()),
     }
 }
