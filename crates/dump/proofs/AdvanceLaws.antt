@@ -3,12 +3,12 @@ use Rattle.std.proofs.Common.{ℕ, ◌+◌, ◌-◌, ◌<◌, ◌≤◌, ◌≡�
 use Rattle.std.specs.Prelude.{Some, None, min, take, drop, set, get_or}
 use native.Mathlib.Nat.{min-le_right}
 use native.Mathlib.Numerals.{add-one}
-use lib.Seq.{take-set-lt}
+use lib.Seq.{take-set-lt, take_all}
 use Rattle.words.specs.Word.{when◌then◌else◌}
 use Rattle.rules.specs.Steps.{step}
-use Rattle.rules.specs.Refusals.{most_motors, period_ok, step_all, table_refusal, table_after, part_after}
+use Rattle.rules.specs.Refusals.{most_motors, period_ok, one_refusal, step_all, table_refusal, table_after, part_after}
 use Rattle.rules.specs.declared.Motor.{Motor}
-use Rattle.rules.proofs.Tables.{not_yet, one_more as table_more, length_part}
+use Rattle.rules.proofs.Tables.{accepted as table-accepted, each_accepted, table_accepted, not_yet, one_more as table_more, length_part}
 use Rattle.totals.specs.Running.{capped}
 use Rattle.sheet.specs.declared.Request.{Request}
 use Rattle.sheet.specs.declared.Request.TheVariants.{Motor as M, Input as I, Scan as S, Refused}
@@ -137,10 +137,20 @@ module _ {file : List ℕ} {s here : Recording} {page after : Page} {line : ℕ}
 
 -- ---- an S line
 
--- a scan motor by motor: one motor more
-pub one_stepped : (ms : List Motor) (ws : List ℕ) (period i : ℕ) (d : Motor) {ns : List Motor} {n : Motor} → i < length ms → i < length ws
-    → ns ≡ step_all ms (take i ws) period → n ≡ step (get_or ns i d) (get_or ws i 0) period → set ns i n ≡ step_all ms (take (i + 1) ws) period
-one_stepped ms ws period i d h k e f = rw (f, e, not_yet ms ws period i d, add-one i) (table_more ms ws period i d h k)
+-- a scan that is accepted, motor by motor
+module _ (ms : List Motor) (ws : List ℕ) (period : ℕ) (h : table_refusal ms ws period ≡ 0) (i : ℕ) (l : i < length ms) where
+  pub word_there : i < length ws
+  word_there = omega (arith, l, (table-accepted ms ws period h).lengths)
+
+  module _ {ns : List Motor} (e : ns ≡ step_all ms (take i ws) period) where
+    pub turn_due : (d : Motor) → one_refusal (get_or ns i d) (get_or ws i 0) period ≡ 0
+    turn_due d = rw (e, not_yet ms ws period i d) (each_accepted ms ws period h i d l)
+
+    pub one_stepped : (d : Motor) {n : Motor} → n ≡ step (get_or ns i d) (get_or ws i 0) period → set ns i n ≡ step_all ms (take (i + 1) ws) period
+    one_stepped d f = rw (f, e, not_yet ms ws period i d, add-one i) (table_more ms ws period i d l word_there)
+
+pub all_stepped : (ms : List Motor) (ws : List ℕ) (period : ℕ) → table_refusal ms ws period ≡ 0 → (i : ℕ) → length ms ≤ i → step_all ms (take i ws) period ≡ table_after ms ws period
+all_stepped ms ws period h i l = rw (table_accepted ms ws period h, take_all i ws (omega (arith, l, (table-accepted ms ws period h).lengths)))
 
 -- of a bench that is ready every scan is accepted
 module _ (b : Bench) (is : length b.motors ≡ 32) (js : length b.words ≡ 32) (ready : ReadyBench b) (period : ℕ) (ok : period_ok period ≡ true) where

@@ -61,6 +61,7 @@ impl Course for Recording {
 
 impl Recording {
     // The end of the dump: where no scan ran, header and #0 are put.
+    #[tactic(auto, using(crate::proofs::SignalLaws::first_is, crate::proofs::AdvanceLaws::few))]
     fn finish(&mut self, file: &[u8], page: &mut Page)
         ensures put { Puts page.old (first_text self.old.bench.scans (moment_of self.old).motors) page.new }
         ensures past { moment_of self.new ≡ past_end file.now (moment_of self.old) }

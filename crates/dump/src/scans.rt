@@ -16,6 +16,7 @@ use rules::Motor;
 use status::switches::read;
 
 // A motor after a scan that is accepted. At rest it is reckoned by its status alone.
+#[tactic(auto, using(interpreter::proofs::ScanLaws::rested, rules::proofs::Tables::one_accepted), unfolding(rules::specs::Record::with_status))]
 fn stepped(m: Motor, word: u32, period: u32) -> Motor
     requires { one_refusal m word period ≡ 0 }
     ensures { result ≡ step m word period }
@@ -32,6 +33,7 @@ fn stepped(m: Motor, word: u32, period: u32) -> Motor
 }
 
 // A scan of the motors in use, which is accepted: each is scanned where it stands, since a bench is dear to copy.
+#[tactic(auto, using(crate::proofs::AdvanceLaws::word_there, rules::proofs::Tables::none_stepped, crate::proofs::AdvanceLaws::turn_due, crate::proofs::AdvanceLaws::one_stepped, crate::proofs::AdvanceLaws::all_stepped))]
 fn scan(motors: &mut [Motor], words: &[u32], period: u32)
     requires { table_refusal motors.old words.now period ≡ 0 }
     ensures { motors.new ≡ table_after motors.old words.now period }

@@ -78,7 +78,7 @@ impl Outputs {
     }
 
     // A bench by value, since a proof is told the lengths of its arrays so.
-    #[tactic(auto, unfolding(rules::specs::Refusals::most_motors))]
+    #[tactic(auto, using(interpreter::proofs::ActLaws::take_used, crate::proofs::AdvanceLaws::few), unfolding(rules::specs::Refusals::most_motors))]
     pub fn of_bench(bench: Bench) -> Outputs
         ensures shown { result ≡ output_states (take bench.count bench.motors) }
         ensures motors { length bench.motors ≡ 32 }
