@@ -33,7 +33,7 @@ pub trait Course: Copy {
     fn scans(&mut self, file: &[u8], page: &mut Page)
         ensures { Scans walk file.now self.old page.old self.new page.new };
 
-    // The next line, which is no accepted scan, or the file's end.
+    // The next line, which is no accepted scan, or the file's end. `fill` alone calls it, after `scans`.
     fn line(&mut self, file: &[u8], page: &mut Page)
         requires here { place walk self.old ≤ length file.now }
         requires no_scan { NoScan walk file.now self.old }

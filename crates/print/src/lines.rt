@@ -11,7 +11,7 @@ use crate::Sitting;
 use course::Course;
 use interpreter::{Bench, is_too_long, next_number};
 use report::{Page, TotalsRow};
-use rules::Motor;
+use rules::{Motor, Refusal};
 use sheet::next_request;
 use totals::Totals;
 use words::choose;
@@ -38,6 +38,7 @@ fn totals_row(number: u32, m: Motor, t: Totals) -> TotalsRow
 fn put_end(b: Bench, page: &mut Page)
     ensures { Puts page.old (at_end (view_of b)) page.new }
 {
+    // by index: the number of a motor is its place in both arrays
     for i in 0..b.held() {
         page.totals(totals_row(i as u32 + 1, b.motors[i], b.totals[i]));
     }
@@ -52,23 +53,25 @@ impl Course for Sitting {
 
     // A file that is too long is refused, and has nothing more to print.
     fn begin(file: &[u8], page: &mut Page) -> Sitting {
-        let mut s = Sitting {
-            bench: Bench::empty(),
-            at: 0,
-            line: 1,
+        let at = if is_too_long(file.len()) {
+            page.refusal(0, u32::from(Refusal::Size));
+            file.len() + 1
+        } else {
+            0
         };
-        if is_too_long(file.len()) {
-            page.refusal(0, 1);
-            s.at = file.len() + 1;
+        Sitting {
+            bench: Bench::empty(),
+            at,
+            line: 1,
         }
-        s
     }
 
     fn at(&self) -> usize {
         self.at
     }
 
-    // A bench of which a scan would be refused for more than its period is left as it is.
+    // A bench of which a scan would be refused for more than its period is left as it is. Dump's words are the same: of a bench, which
+    // crate `course` doesn't know.
     fn scans(&mut self, file: &[u8], page: &mut Page) {
         if self.bench.accept_scan(1).is_ok() {
             self.scan_lines(file, page);

@@ -13,6 +13,7 @@ use interpreter::{Bench, Inputs, next_number, next_scan};
 use report::{Page, Row};
 use rules::Motor;
 use status::switches::{position_read, read};
+use totals::Totals;
 
 // A motor's line after a scan.
 fn row(scan: u32, number: u32, m: Motor) -> Row
@@ -55,6 +56,7 @@ impl Sitting {
                 break;
             };
             scans = next_number(scans);
+            // by index: a motor's record and totals are written in place, beside its word
             for i in 0..held {
                 // a motor at rest is read field by field: `m` is handed on nowhere, and so never copied
                 let word = inputs.words[i];
@@ -66,13 +68,15 @@ impl Sitting {
                     let r = read(settings, word);
                     // without a sure On reading its totals stay
                     if position_read(r) == 2 {
-                        let mut counted = totals[i];
-                        counted.on = totals::on_after(counted.on, r, period);
-                        totals[i] = counted;
+                        totals[i] = Totals {
+                            on: totals::on_after(totals[i].on, r, period),
+                            ..totals[i]
+                        };
                     }
-                    let mut rested = motors[i];
-                    rested.status = motor::rest(settings, v, word, r);
-                    motors[i] = rested;
+                    motors[i] = Motor {
+                        status: motor::rest(settings, v, word, r),
+                        ..motors[i]
+                    };
                 } else {
                     let r = read(settings, word);
                     let stepped = motor::scan(motors[i], word, period).unwrap_or(motors[i]);

@@ -45,7 +45,7 @@ loop-i-preserved c =
     -- the lists with it and its totals after its scan, at rest or not
     let motors_later : c.if-is_resting.motors ≡ set e.motors e.i (step m word period) =
     elim c.if-is_resting.branch [
-      | then-is_resting w ↦ w.motors-is ∙ set_rested e.motors e.totals e.i m t word period ok w.read-r.ensures (sym c.is_resting.ensures ∙ w.if-is_resting.true) w.rest-rested.ensures
+      | then-is_resting w ↦ w.motors-is ∙ set_rested e.motors e.totals e.i m t word period ok w.read-r.ensures (sym c.is_resting.ensures ∙ w.if-is_resting.true) w.rest.ensures
       | else-is_resting w ↦ w.motors-is ∙ set_scanned e.motors e.totals e.i m t word period ok w.read-r-else-is_resting.ensures (w.unwrap_or-stepped.ensures ∙ w.scan.ensures.motor)
     ] in
     let totals_later : c.if-is_resting.totals ≡ set e.totals e.i (scan_totals t m word period) =
