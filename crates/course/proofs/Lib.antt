@@ -2,3 +2,4 @@ pub mod ThroughLaws
 pub mod Runs
 pub mod Pieces
 pub mod Written
+pub mod DotsLaws

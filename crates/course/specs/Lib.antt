@@ -1,2 +1,3 @@
 pub mod Through
 pub mod Walk
+pub mod Dots

@@ -6,6 +6,9 @@ ghost use Rattle.std.specs.Prelude.{ℕ, ◌≤◌, ◌≡◌, length, IfSome, O
 ghost use Rattle.std.specs.Io.KnownBytes.{Appends};
 ghost use Rattle.course.specs.Walk.{Walk, Laws, place, NoScan, Begin, Advance, Scans, Fill};
 
+#[cfg(test)]
+mod tests;
+
 use report::Page;
 use std::alloc::Global;
 use std::io;
