@@ -1,47 +1,38 @@
--- How the lines that were taken advance the dump. Assumes nothing.
-use Prim.Native.Nat.{ℕ, ◌+◌, ◌-◌, ◌<◌, ◌≤◌, min}
-use mathlib.Core.Path.{◌≡◌, refl, sym, ap, ◌∙◌}
-use mathlib.Core.Bool.{Bool, true, false, ◌&&◌, true≢false}
-use mathlib.Core.List.{List, [], ◌++◌, append-nil}
-use native.Mathlib.Omega.{arith}
+-- How the lines that were taken advance a recording. Assumes nothing.
+use Rattle.std.proofs.Common.{ℕ, ◌+◌, ◌-◌, ◌<◌, ◌≤◌, ◌≡◌, refl, sym, ap, ◌∙◌, true, List, [], ◌++◌, length, le-ltb, arith}
+use Rattle.std.specs.Prelude.{Some, None, min, take, drop, set, get_or}
+use native.Mathlib.Nat.{min-le_right}
 use native.Mathlib.Numerals.{add-one}
-use lib.Dec.{leb}
-use lib.ListN.{length, take, set, get_or, length-append}
 use lib.Seq.{take-set-lt}
-use borrow.Author.Tests.{leb-false}
-use Rattle.words.proofs.Laws.{both_le}
+use Rattle.words.specs.Word.{when◌then◌else◌}
 use Rattle.rules.specs.Steps.{step}
-use Rattle.rules.specs.Refusals.{most_motors, step_all, part_refusal, part_after}
+use Rattle.rules.specs.Refusals.{most_motors, period_ok, step_all, table_refusal, table_after, part_after}
 use Rattle.rules.specs.declared.Motor.{Motor}
-use Rattle.rules.proofs.Tables.{not_yet, one_more as table_more}
+use Rattle.rules.proofs.Tables.{not_yet, one_more as table_more, length_part}
 use Rattle.totals.specs.Running.{capped}
 use Rattle.sheet.specs.declared.Request.{Request}
 use Rattle.sheet.specs.declared.Request.TheVariants.{Motor as M, Input as I, Scan as S, Refused}
-use Rattle.std.specs.Prelude.{Some, None}
 use Rattle.sheet.specs.Grammar.{next_at}
-use Rattle.sheet.proofs.RequestLaws.{taken as Taken-step}
-use Rattle.report.specs.Put.{Put}
-use Rattle.report.proofs.PutLaws.{put_none, put_length, then as and_then}
+use Rattle.sheet.proofs.RequestLaws.{taken}
+use Rattle.report.specs.Puts.{Puts}
+use Rattle.report.specs.declared.page.Page.{Page}
+use Rattle.report.proofs.PutLaws.{puts_none}
 use Rattle.interpreter.specs.State.{State, next_number, with_motor, with_words, with_word, scan_refusal, with_scan, refusal_for, changed, state_after, view_of}
-use Rattle.interpreter.specs.Lines.{InputLines, InputRun}
+use Rattle.interpreter.specs.Lines.{InputLines, InputRun, ReadyBench}
 use Rattle.interpreter.specs.Lines.InputLines.{none as no_line, one_more}
 use Rattle.interpreter.specs.declared.Bench.{Bench}
-use Rattle.interpreter.specs.declared.Acted.{Acted}
 use Rattle.interpreter.specs.declared.lines.Inputs.{Inputs}
-use Rattle.interpreter.proofs.ActLaws.{accepted as is-changed, input_there, used, take_used, scan_refusal_lem, scan_motors}
-use Rattle.interpreter.proofs.LineLaws.{same_size, onward, inside}
-use Rattle.dump.specs.Advance.{Moment, moment, bench_at, moment_of, state_of, clock_after, moment_after, first_text, scan_text, added, Through, most_put, NoScan, Finish, Advance, Scans, Fill, Room}
-use Rattle.dump.specs.Advance.Through.{none, accepted, refused, ended}
-use Rattle.dump.specs.declared.Recording.{Recording}
-use Rattle.dump.specs.declared.Recorded.{Recorded}
-use Rattle.dump.proofs.SignalLaws.{first_length, scan_length, scan_is}
+use Rattle.interpreter.proofs.ActLaws.{accepted as is-changed, input_there, used, take_used, scan_code, scan_refusal_lem, scan_motors}
+use Rattle.interpreter.proofs.LineLaws.{onward, words_right}
+use Rattle.interpreter.proofs.ScanLaws.{all_due, range_kept}
+use Rattle.course.specs.Through.{Through}
+use Rattle.course.specs.Through.Through.{none, accepted, refused, ended}
+use Rattle.course.specs.Walk.{NoScan, Advance, Run}
+use Rattle.course.proofs.Runs.{run_quietly}
 use Rattle.dump.specs.Dump.{output_states}
-use Rattle.dump.specs.Signals.{scan_by}
-use Rattle.dump.proofs.DumpLaws.{through_then}
-
--- a recording at a place of a file
-abbrev pub standing : Bench → ℕ → ℕ → ℕ → Recorded
-standing bench at time to = record { recording = record { bench = bench; at = at; time = time }; to = to }
+use Rattle.dump.specs.Advance.{Moment, moment, bench_at, moment_of, state_of, past_end, clock_after, moment_after, first_text, scan_text, added, lines, recorded}
+use Rattle.dump.specs.declared.Recording.{Recording}
+use Rattle.dump.proofs.SignalLaws.{first_length, scan_length}
 
 -- ---- totals bear on no moment
 
@@ -61,64 +52,63 @@ same_refusal b at time Refused = refl
 
 -- ---- one line, or the end
 
-few : (b : Bench) → length b.motors ≡ 32 → length (take b.count b.motors) ≤ 32
+pub few : (b : Bench) → length b.motors ≡ 32 → length (take b.count b.motors) ≤ 32
 unfolding most_motors
 few b is = omega (arith, used b.count b.motors is)
 
 -- an accepted line that is no scan adds nothing, and takes no time
-quiet : (file : List ℕ) (s : Recording) (p : Moment) (r : Request) (next : ℕ) → next_at file s.at ≡ Some (r, next) → refusal_for (view_of s.bench) r ≡ 0 → NoScan file s
-    → (added (moment_of s) p r ≡ []) × (clock_after s.time r ≡ s.time)
+quiet : (file : List ℕ) (s : Recording) (r : Request) (next : ℕ) → next_at file s.at ≡ Some (r, next) → refusal_for (view_of s.bench) r ≡ 0 → NoScan recorded file s
+    → (added (moment_of s) (clock_after s.time r) r ≡ []) × (clock_after s.time r ≡ s.time)
 unfolding added clock_after
-quiet file s p (M number ops1 ops2 w u) next at h n = (refl, refl)
-quiet file s p (I number word) next at h n = (refl, refl)
-quiet file s p (S period) next at h n = absurd (n period next at (same_refusal s.bench s.at s.time (S period) ∙ h))
-quiet file s p Refused next at h n = (refl, refl)
+quiet file s (M number ops1 ops2 w u) next at h n = (refl, refl)
+quiet file s (I number word) next at h n = (refl, refl)
+quiet file s (S period) next at h n = absurd (n period next at (same_refusal s.bench s.at s.time (S period) ∙ h))
+quiet file s Refused next at h n = (refl, refl)
 
-module _ {file : List ℕ} {s : Recording} {to : ℕ} {out : List ℕ} where
+module _ {file : List ℕ} {s t : Recording} {page : Page} where
   -- the dump ends, at the end of the file or at a refused line
-  module _ {after : List ℕ} {r : Recorded} (is : length s.bench.motors ≡ 32) (f : Finish file s out to after r) where
-    pub at_end_lem : s.at ≤ length file → next_at file s.at ≡ None → Advance file s out to after r
-    at_end_lem l found =
+  module _ {after : Page} (put : Puts page (first_text s.bench.scans (moment_of s).motors) after)
+      (past : moment_of t ≡ past_end file (moment_of s)) (few : length (moment_of s).motors ≤ 32) where
+    pub at_end : s.at ≤ length file → next_at file s.at ≡ None → Advance recorded file s page t after
+    at_end l found =
         record {
           piece = first_text s.bench.scans (moment_of s).motors;
-          through = rw f.past (ended none l found);
-          put = f.put;
-          short = omega (arith, first_length s.bench.scans (moment_of s).motors (few s.bench is));
-          further = omega (arith, ap (λ (p : Moment). p.at) f.past);
+          through = rw past (ended none l found);
+          put = put;
+          short = omega (arith, first_length s.bench.scans (moment_of s).motors few);
+          further = omega (arith, ap (λ (p : Moment). p.at) past);
         }
 
-    pub stops : {q : Request} {next : ℕ} → next_at file s.at ≡ Some (q, next) → (refusal_for (view_of s.bench) q ≡ 0 → ⊥) → Advance file s out to after r
+    pub stops : {q : Request} {next : ℕ} → next_at file s.at ≡ Some (q, next) → (refusal_for (view_of s.bench) q ≡ 0 → ⊥) → Advance recorded file s page t after
     stops {q} {next} found h =
         record {
           piece = first_text s.bench.scans (moment_of s).motors;
-          through = rw f.past (refused none found (λ e. h (sym (same_refusal s.bench s.at s.time q) ∙ e)));
-          put = f.put;
-          short = omega (arith, first_length s.bench.scans (moment_of s).motors (few s.bench is));
-          further = let line = Taken-step file s.at q next found in omega (arith, ap (λ (p : Moment). p.at) f.past, line.further, line.within);
+          through = rw past (refused none found (λ e. h (sym (same_refusal s.bench s.at s.time q) ∙ e)));
+          put = put;
+          short = omega (arith, first_length s.bench.scans (moment_of s).motors few);
+          further = let line = taken file s.at q next found in omega (arith, ap (λ (p : Moment). p.at) past, line.further, line.within);
         }
 
-  -- a line that is accepted and is no scan
-  module _ {q : Request} {next : ℕ} (found : next_at file s.at ≡ Some (q, next)) (a : Acted) where
-    pub goes_on : NoScan file s → refusal_for (view_of s.bench) q ≡ 0 → view_of a.bench ≡ state_after (view_of s.bench) q
-        → Advance file s out to out (standing a.bench next s.time to)
-    goes_on n h e =
-        let p = moment_after next (moment_of s) q in
-        let c = quiet file s p q next found h n in
-        let m : p ≡ bench_at next a.bench s.time =
-        same_moment s.bench s.at next s.time q ∙ rw c.1 (ap (λ (t : State). moment next t s.time) (sym (e ∙ is-changed (view_of s.bench) q h))) in
-        record {
-          piece = [];
-          through = rw (← m, ← c.0) (accepted none found (same_refusal s.bench s.at s.time q ∙ h));
-          put = put_none;
-          short = omega arith;
-          further = (Taken-step file s.at q next found).further;
-        }
+-- a line that is accepted and is no scan
+pub goes_on : {file : List ℕ} {s : Recording} {page : Page} {q : Request} {next : ℕ} (b : Bench) → next_at file s.at ≡ Some (q, next) → NoScan recorded file s → refusal_for (view_of s.bench) q ≡ 0
+    → view_of b ≡ state_after (view_of s.bench) q → Advance recorded file s page (record { bench = b; at = next; time = s.time }) page
+goes_on {file} {s} {q = q} {next} b found n h e =
+    let c = quiet file s q next found h n in
+    let m : moment_after next (moment_of s) q ≡ bench_at next b s.time =
+    same_moment s.bench s.at next s.time q ∙ rw c.1 (ap (λ (u : State). moment next u s.time) (sym (e ∙ is-changed (view_of s.bench) q h))) in
+    record {
+      piece = [];
+      through = rw (← m, ← c.0) (accepted none found (same_refusal s.bench s.at s.time q ∙ h));
+      put = puts_none;
+      short = omega arith;
+      further = (taken file s.at q next found).further;
+    }
 
 -- ---- runs of I lines, which add nothing
 
 inputs_through : {file words : List ℕ} {held at line : ℕ} {later : List ℕ} {here k : ℕ} (ms : List Motor) (scans time count : ℕ) → length ms ≡ held → min count most_motors ≡ held
     → InputLines file held words at line later here k
-    → Through file (record { at = at; motors = ms; words = take count words; scans = scans; time = time }) []
+    → Through lines file (record { at = at; motors = ms; words = take count words; scans = scans; time = time }) []
     (record { at = here; motors = ms; words = take count later; scans = scans; time = time })
 unfolding refusal_for changed with_word with_words added clock_after
 inputs_through ms scans time count e f no_line = none
@@ -126,177 +116,91 @@ inputs_through {held = held} ms scans time count e f (one_more {later} {number =
     let n = input_there held number word h in
     rw (take-set-lt count later (number - 1) word (omega (arith, n.0, n.1))) (accepted (inputs_through ms scans time count e f s) found (rw e h))
 
--- ---- runs of I and S lines
-
 -- the recording after a run of I lines
-abbrev pub after_run : Recording → Inputs → Recording
-after_run s n =
+abbrev pub after_inputs : Recording → Inputs → Recording
+after_inputs s n =
     record {
       bench = record { motors = s.bench.motors; totals = s.bench.totals; words = n.words; count = s.bench.count; scans = s.bench.scans };
       at = n.at;
       time = s.time;
     }
 
--- and after a scan more, whose motors are `records` then
-abbrev pub after_scan : Recording → Inputs → ℕ → List Motor → ℕ → ℕ → Recorded
-after_scan s n period records next to =
-    standing (record { motors = records; totals = s.bench.totals; words = n.words; count = s.bench.count; scans = next_number s.bench.scans }) next (capped (s.time + period)) to
+pub inputs_ready : {file : List ℕ} (s : Recording) {line : ℕ} {i : Inputs} → ReadyBench s.bench → InputRun file (min s.bench.count most_motors) s.bench.words s.at line i
+    → ReadyBench (after_inputs s i).bench
+inputs_ready s ready inputs = record { records = ready.records; words = words_right inputs.lines ready.words }
 
-module _ {file : List ℕ} {s : Recording} {out : List ℕ} {to last : ℕ} where
-  pub scans_none : to ≤ last → Scans file s out to last out (standing s.bench s.at s.time to)
-  scans_none h =
-      record {
-        piece = [];
-        through = none;
-        put = put_none;
-        fits = omega arith;
-        onward = omega arith;
-        within = λ l. l;
-        moved = λ l. absurd (omega arith);
-      }
+module _ {file : List ℕ} {s here : Recording} {page after : Page} {line : ℕ} where
+  pub and_inputs : Run recorded file s page here after → (i : Inputs) → length here.bench.motors ≡ 32
+      → InputRun file (min here.bench.count most_motors) here.bench.words here.at line i → Run recorded file s page (after_inputs here i) after
+  and_inputs run i is inputs =
+      run_quietly run (inputs_through (moment_of here).motors here.bench.scans here.time here.bench.count (used here.bench.count here.bench.motors is) refl inputs.lines) (onward inputs.lines)
 
-  module _ {here : Recording} {after : List ℕ} {n : ℕ} (r : Scans file s out to last after (record { recording = here; to = n })) (i : Inputs) (is : length here.bench.motors ≡ 32)
-      (run : InputRun file (min here.bench.count most_motors) here.bench.words here.at 0 i) where
-    -- a run of I lines more
-    pub scans_inputs : Scans file s out to last after (record { recording = after_run here i; to = n })
-    scans_inputs =
-        record {
-          piece = r.piece;
-          put = r.put;
-          fits = r.fits;
-          through = rw (← append-nil r.piece) (through_then r.through
-              (inputs_through (moment_of here).motors here.bench.scans here.time here.bench.count (used here.bench.count here.bench.motors is) refl run.lines));
-          onward = omega (arith, r.onward, onward run.lines);
-          within = λ l. inside run.lines (r.within l);
-          moved = λ l. omega (arith, r.moved l, onward run.lines);
-        }
+-- ---- an S line
 
-    module _ (js : length here.bench.words ≡ 32) (period : ℕ) where
-      js₁ : length i.words ≡ 32
-      js₁ = same_size run.lines ∙ js
-
-      abbrev b : Bench
-      b = (after_run here i).bench
-
-      -- the scan of the motors in use is that of the table
-      pub scan_code : part_refusal here.bench.motors (min here.bench.count most_motors) i.words period ≡ refusal_for (state_of (bench_at i.at b here.time)) (S period)
-      scan_code = scan_refusal_lem b is js₁ period ∙ sym (same_refusal b i.at here.time (S period))
-
-      -- a run of I lines and an S line more, whose motors are `records` after it
-      module _ (records : List Motor) (next m : ℕ) (found : next_at file i.at ≡ Some (S period, next))
-          (ok : part_refusal here.bench.motors (min here.bench.count most_motors) i.words period ≡ 0)
-          (f : records ≡ part_after here.bench.motors (min here.bench.count most_motors) i.words period) where
-        moment_is : moment_after next (bench_at i.at b here.time) (S period) ≡ moment_of (after_scan here i period records next m).recording
-        unfolding changed with_scan clock_after
-        moment_is = rw (f, scan_motors b is js₁ period)
-
-        added_is : added (bench_at i.at b here.time) (moment_of (after_scan here i period records next m).recording) (S period)
-            ≡ scan_text here.bench.scans (capped (here.time + period)) (take here.bench.count here.bench.motors) (take here.bench.count records)
-        unfolding added
-        added_is = refl
-
-        pub scans_more : {later : List ℕ} → n ≤ last → last + most_put ≤ length out
-            → Put after n (scan_text here.bench.scans (capped (here.time + period)) (take here.bench.count here.bench.motors) (take here.bench.count records)) later m
-            → Scans file s out to last later (after_scan here i period records next m)
-        unfolding most_motors
-        scans_more h room p =
-            let line = Taken-step file i.at (S period) next found in
-            let q = scans_inputs in
-            let text = scan_text here.bench.scans (capped (here.time + period)) (take here.bench.count here.bench.motors) (take here.bench.count records) in
-            let short = scan_length here.bench.scans (capped (here.time + period)) (take here.bench.count here.bench.motors) (take here.bench.count records) (omega (arith, used here.bench.count here.bench.motors is)) in
-            record {
-              piece = q.piece ++ text;
-              put = and_then q.put p;
-              fits = omega (arith, length-append q.piece text, q.fits, q.put.place, short);
-              through = rw (← added_is, ← moment_is) (accepted q.through found (sym scan_code ∙ ok));
-              onward = omega (arith, q.onward, line.further);
-              within = λ l. line.within;
-              moved = λ l. omega (arith, q.onward, line.further);
-            }
-
--- ---- a scan motor by motor
-
--- one motor more
+-- a scan motor by motor: one motor more
 pub one_stepped : (ms : List Motor) (ws : List ℕ) (period i : ℕ) (d : Motor) {ns : List Motor} {n : Motor} → i < length ms → i < length ws
     → ns ≡ step_all ms (take i ws) period → n ≡ step (get_or ns i d) (get_or ws i 0) period → set ns i n ≡ step_all ms (take (i + 1) ws) period
 one_stepped ms ws period i d h k e f = rw (f, e, not_yet ms ws period i d, add-one i) (table_more ms ws period i d h k)
 
--- what was put by the states of the outputs is what the scan adds
-pub scan_put : (ms ns : List Motor) (count held scans : ℕ) {time clock at to : ℕ} {shown states out after : List ℕ} → length ms ≡ 32 → length ns ≡ 32 → held ≡ min count most_motors
-    → shown ≡ output_states ms → states ≡ output_states ns → time ≡ clock → Put out at (scan_by scans time held (take held shown) (take held states)) after to
-    → Put out at (scan_text scans clock (take count ms) (take count ns)) after to
-unfolding most_motors
-scan_put ms ns count held scans {clock = clock} is js n e f g p =
-    rw (take_used count ms is, take_used count ns js, ← n, ← scan_is ms held (omega (arith, n)) ns scans clock, ← e, ← f, ← g) p
+-- of a bench that is ready every scan is accepted
+module _ (b : Bench) (is : length b.motors ≡ 32) (js : length b.words ≡ 32) (ready : ReadyBench b) (period : ℕ) (ok : period_ok period ≡ true) where
+  scan_due : refusal_for (view_of b) (S period) ≡ 0
+  scan_due =
+      sym (scan_refusal_lem b is js period)
+      ∙ all_due b.motors b.words (min b.count most_motors) (min-le_right _ most_motors) is js ready.records ready.words period ok
 
--- ---- a buffer filled line by line
+  pub in_use_due : {held : ℕ} → held ≡ min b.count most_motors → table_refusal (take held b.motors) (take held b.words) period ≡ 0
+  in_use_due e = scan_code b is js period e ∙ scan_due
 
-pub record Filling (file : List ℕ) (s : Recording) (out : List ℕ) (here : Recording) (after : List ℕ) (to : ℕ) : Type 0 where
-  pub done : List ℕ
-  pub put : Put out 0 done after to
-  pub fits : length done ≤ length out
-  pub through : Through file (moment_of s) done (moment_of here)
-  pub onward : s.at ≤ here.at
-  pub moved : 0 < to → s.at < here.at
+-- the recording after it, whose motors are these then
+abbrev pub after_scan : Recording → List Motor → ℕ → ℕ → Recording
+after_scan s ms period next =
+    record {
+      bench = record { motors = ms; totals = s.bench.totals; words = s.bench.words; count = s.bench.count; scans = next_number s.bench.scans };
+      at = next;
+      time = capped (s.time + period);
+    }
 
-module _ {file : List ℕ} {s : Recording} {out : List ℕ} where
-  pub filling_none : Filling file s out s out 0
-  filling_none = record { done = []; through = none; put = put_none; fits = omega arith; onward = omega arith; moved = λ l. absurd (omega arith) }
 
-  pub none_filled : length out < most_put → Fill file s out out (record { recording = s; to = 0 })
-  none_filled h = record { piece = []; through = none; put = put_none; fits = omega arith; further = λ l. absurd (omega arith) }
+-- the motors in use are scanned as a table, and those past them stay
+pub in_use_scanned : (b : Bench) (period : ℕ) {held : ℕ} {ms : List Motor} → held ≡ min b.count most_motors
+    → ms ≡ table_after (take held b.motors) (take held b.words) period → ms ++ drop held b.motors ≡ part_after b.motors (min b.count most_motors) b.words period
+unfolding part_after when◌then◌else◌
+in_use_scanned b period e f = rw (f, e, le-ltb most_motors (min b.count most_motors) (min-le_right _ most_motors))
 
-  module _ {here : Recording} {after : List ℕ} {to : ℕ} (f : Filling file s out here after to) where
-    -- lines are left, and room for a piece more
-    pub taken : (leb here.at (length file) && leb to (length out - most_put)) ≡ true → (here.at ≤ length file) × (to ≤ length out - most_put)
-    taken t = both_le t
+pub in_use_shown : (count : ℕ) (ms : List Motor) {held : ℕ} → length ms ≡ 32 → held ≡ min count most_motors → output_states (take held ms) ≡ output_states (take count ms)
+in_use_shown count ms is e = rw (e, ← take_used count ms is)
 
-    pub room_left : (leb here.at (length file) && leb to (length out - most_put)) ≡ true → most_put ≤ length out → Room after to (length out - most_put)
-    room_left t room = record { begins = (taken t).1; holds = omega (arith, put_length f.put) }
+module _ (s : Recording) (is : length s.bench.motors ≡ 32) (period : ℕ) {ms : List Motor}
+    (e : ms ≡ part_after s.bench.motors (min s.bench.count most_motors) s.bench.words period) where
+  pub scanned_length : length ms ≡ 32
+  scanned_length = ap length e ∙ length_part s.bench.motors _ s.bench.words period ∙ is
 
-    -- a run that left no room
-    pub filled_up : {later : List ℕ} {q : Recorded} → Scans file here after to (length out - most_put) later q → length out - most_put < q.to
-        → (leb here.at (length file) && leb to (length out - most_put)) ≡ true → most_put ≤ length out → Fill file s out later q
-    filled_up c over t room =
-        let b = taken t in
-        record {
-          piece = f.done ++ c.piece;
-          put = and_then f.put c.put;
-          fits = omega (arith, length-append f.done c.piece, f.fits, f.put.place, c.fits);
-          through = through_then f.through c.through;
-          further = λ l m. omega (arith, f.onward, c.moved (omega (arith, b.1, over)));
-        }
+  module _ (js : length s.bench.words ≡ 32) (next : ℕ) where
+    scan_moment : moment_after next (moment_of s) (S period) ≡ moment_of (after_scan s ms period next)
+    unfolding changed with_scan clock_after
+    scan_moment = rw (e, scan_motors s.bench is js period)
 
-    -- a run, and one line more
-    pub filling_more : {between later : List ℕ} {q r : Recorded} → Scans file here after to (length out - most_put) between q
-        → q.to ≤ length out - most_put → Advance file q.recording between q.to later r
-        → most_put ≤ length out → Filling file s out r.recording later r.to
-    filling_more c under a room =
-        let more = and_then c.put a.put in
-        let long = length-append f.done (c.piece ++ a.piece) in
-        let longer = length-append c.piece a.piece in
-        let far = a.further in
-        record {
-          done = f.done ++ (c.piece ++ a.piece);
-          put = and_then f.put more;
-          fits = omega (arith, long, longer, f.fits, f.put.place, c.fits, c.put.place, put_length f.put, a.short);
-          through = through_then f.through (through_then c.through a.through);
-          onward = omega (arith, f.onward, c.onward, far);
-          moved = λ l. omega (arith, f.onward, c.onward, far);
-        }
+    scan_added : added (moment_of s) (clock_after s.time (S period)) (S period) ≡ scan_text s.bench.scans (capped (s.time + period)) (moment_of s).motors (take s.bench.count ms)
+    unfolding added changed with_scan clock_after
+    scan_added = rw (e, scan_motors s.bench is js period)
 
-    pub filled : (leb here.at (length file) && leb to (length out - most_put)) ≡ false → Fill file s out after (record { recording = here; to = to })
-    filled t =
-        record {
-          piece = f.done;
-          put = f.put;
-          fits = f.fits;
-          through = f.through;
-          further = λ room l. go l (leb here.at (length file)) refl (leb to (length out - most_put)) refl t;
-        }
-      where
-        go : s.at ≤ length file → (a : Bool) → leb here.at (length file) ≡ a → (b : Bool) → leb to (length out - most_put) ≡ b → (a && b) ≡ false
-            → s.at < here.at
-        go l true p true q e = absurd (true≢false e)
-        go l true p false q e = f.moved (omega (arith, leb-false to (length out - most_put) q))
-        go l false p b q e = omega (arith, leb-false here.at (length file) p)
+    module _ (ready : ReadyBench s.bench) (ok : period_ok period ≡ true) where
+      pub scanned_ready : ReadyBench (after_scan s ms period next).bench
+      scanned_ready =
+          record {
+            records = rw e (range_kept s.bench.motors s.bench.words (min s.bench.count most_motors) (min-le_right _ most_motors) is js ready.records ready.words period ok);
+            words = ready.words;
+          }
+
+      pub one_scan : {file : List ℕ} {page after : Page} → next_at file s.at ≡ Some (S period, next)
+          → Puts page (scan_text s.bench.scans (capped (s.time + period)) (moment_of s).motors (take s.bench.count ms)) after
+          → Advance recorded file s page (after_scan s ms period next) after
+      one_scan {file} found put =
+          record {
+            piece = scan_text s.bench.scans (capped (s.time + period)) (moment_of s).motors (take s.bench.count ms);
+            through = rw (← scan_added, ← scan_moment) (accepted none found (same_refusal s.bench s.at s.time (S period) ∙ scan_due s.bench is js ready period ok));
+            put = put;
+            short = scan_length s.bench.scans _ _ _ (few s.bench is);
+            further = (taken file s.at (S period) next found).further;
+          }

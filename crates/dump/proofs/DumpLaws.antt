@@ -22,8 +22,9 @@ use Rattle.interpreter.specs.State.{State, next_number, with_motor, with_words, 
 use Rattle.interpreter.proofs.ActLaws.{motor_first, not_accepted}
 use Rattle.vcd.specs.Text.{samples_text}
 use Rattle.dump.specs.Dump.{signals_of, time_after, sample_of, samples_from, is_scan, motors_before_scans}
-use Rattle.dump.specs.Advance.{Moment, moment, state_of, past_end, clock_after, moment_after, first_text, scan_text, added, Through}
-use Rattle.dump.specs.Advance.Through.{none, accepted, refused, ended}
+use Rattle.course.specs.Through.{Through}
+use Rattle.course.specs.Through.Through.{none, accepted, refused, ended}
+use Rattle.dump.specs.Advance.{Moment, moment, state_of, past_end, clock_after, moment_after, first_text, scan_text, added, lines}
 
 -- ---- the first of some requests
 
@@ -172,18 +173,17 @@ left_scan time t period rs h =
     (sym (append_assoc (first_text t.scans t.motors) _ _))
 
 -- after an accepted one
-left_accepted : (next : ℕ) (p : Moment) (r : Request) (rs : List Request) → refusal_for (state_of p) r ≡ 0
-    → left_of p.time (state_of p) (r ∷ rs)
-    ≡ added p (moment next (changed (state_of p) r) (time_after p.time r)) r ++ left_of (time_after p.time r) (changed (state_of p) r) rs
+left_accepted : (p : Moment) (r : Request) (rs : List Request) → refusal_for (state_of p) r ≡ 0
+    → left_of p.time (state_of p) (r ∷ rs) ≡ added p (time_after p.time r) r ++ left_of (time_after p.time r) (changed (state_of p) r) rs
 unfolding left_of added time_after sample_of is_scan changed with_motor with_word with_words
-left_accepted next p (M number ops1 ops2 w u) rs h =
+left_accepted p (M number ops1 ops2 w u) rs h =
     let r = M number ops1 ops2 w u in
     rw (before_accepted (state_of p) r rs h refl, samples_accepted (state_of p) r rs h p.time)
-left_accepted next p (I number word) rs h =
+left_accepted p (I number word) rs h =
     let r = I number word in
     rw (before_accepted (state_of p) r rs h refl, samples_accepted (state_of p) r rs h p.time)
-left_accepted next p (S period) rs h = left_scan p.time (state_of p) period rs h
-left_accepted next p Refused rs h = absurd (not_accepted (state_of p) Refused h refl)
+left_accepted p (S period) rs h = left_scan p.time (state_of p) period rs h
+left_accepted p Refused rs h = absurd (not_accepted (state_of p) Refused h refl)
 
 -- ---- what is left to put from a moment on
 
@@ -211,11 +211,11 @@ module _ (file : List ℕ) (p : Moment) where
 
     -- where the time is not capped
     rest_accepted : refusal_for (state_of p) r ≡ 0 → time_after p.time r ≤ 4294967295
-        → rest_from file p ≡ added p (moment_after next p r) r ++ rest_from file (moment_after next p r)
+        → rest_from file p ≡ added p (clock_after p.time r) r ++ rest_from file (moment_after next p r)
     rest_accepted h few =
         let q = moment next (changed (state_of p) r) (time_after p.time r) in
         rw (clock_exact p.time r few)
-        (here ∙ left_accepted next p r s.rest h
+        (here ∙ left_accepted p r s.rest h
         ∙ rw (rest_from_lem file q s.within, left_alike (time_after p.time r) (changed (state_of p) r) [] (requests_of (drop next file)), s.goes_on (not_accepted (state_of p) r h)))
 
 -- ---- the lines that were taken, and what is left
@@ -229,15 +229,8 @@ nothing_left : (file : List ℕ) (p : Moment) (piece : List ℕ) → piece ≡ p
 nothing_left file p piece = sym (ap (λ (l : List ℕ). piece ++ l) (rest_past file (past_end file p) (omega arith)) ∙ append-nil piece)
 
 module _ {file : List ℕ} {from : Moment} where
-  -- lines, and then more
-  pub through_then : {mid to : Moment} {front back : List ℕ} → Through file from front mid → Through file mid back to → Through file from (front ++ back) to
-  through_then {front = front} c none = rw (append-nil front) c
-  through_then {front = front} c (accepted {piece} {p} {r} {next} d f h) = rw (← append_assoc front piece (added p (moment_after next p r) r)) (accepted (through_then c d) f h)
-  through_then {front = front} c (refused {piece} {p} {r} d f h) = rw (← append_assoc front piece (first_text p.scans p.motors)) (refused (through_then c d) f h)
-  through_then {front = front} c (ended {piece} {p} d l f) = rw (← append_assoc front piece (first_text p.scans p.motors)) (ended (through_then c d) l f)
-
   module _ (early : Early from) where
-    pub through_early : {piece : List ℕ} {p : Moment} → Through file from piece p → Early p
+    pub through_early : {piece : List ℕ} {p : Moment} → Through lines file from piece p → Early p
     through_early none = early
     through_early (accepted {p = p} {r} {next} c f h) =
         let s = taken file p.at r next f in
@@ -247,13 +240,13 @@ module _ {file : List ℕ} {from : Moment} where
         omega (arith, through_early c, s.further, s.within)
     through_early (ended c l f) = omega (arith, through_early c, l)
 
-    pub through_rest : {piece : List ℕ} {p : Moment} → length file ≤ 65536 → Through file from piece p → rest_from file from ≡ piece ++ rest_from file p
+    pub through_rest : {piece : List ℕ} {p : Moment} → length file ≤ 65536 → Through lines file from piece p → rest_from file from ≡ piece ++ rest_from file p
     through_rest few none = refl
     through_rest few (accepted {piece} {p} {r} {next} c f h) =
         let s = taken file p.at r next f in
         through_rest few c
         ∙ ap (λ (l : List ℕ). piece ++ l) (rest_accepted file p s h (omega (arith, through_early c, s.further, s.within, (time_goes p.time (state_of p) r h).1)))
-        ∙ sym (append_assoc piece (added p (moment_after next p r) r) _)
+        ∙ sym (append_assoc piece (added p (clock_after p.time r) r) _)
     through_rest few (refused {piece} {p} {r} {next} c f h) =
         through_rest few c
         ∙ ap (λ (l : List ℕ). piece ++ l) (rest_refused file p (taken file p.at r next f) h)

@@ -1,74 +1,49 @@
--- The pieces that `fill` puts after `begin`, one call after another up to the end, are together the whole dump, and each stands whole at the
--- buffer's start. The calls come to an end. Assumes nothing.
-use Prim.Native.Nat.{ℕ, suc, ◌+◌, ◌-◌, ◌<◌, ◌≤◌}
-use mathlib.Core.Path.{◌≡◌, refl, sym, ap, ◌∙◌}
-use mathlib.Core.Bool.{Bool, true, false}
-use mathlib.Core.List.{List, [], ◌∷◌, ◌++◌}
-use native.Mathlib.Omega.{arith}
-use lib.Dec.{ltb}
-use lib.ListN.{length, take}
-use borrow.Author.Tests.{ltb-true, ltb-false, lt-ltb, le-ltb}
+-- What calls of `fill` put after `begin`, one after another up to the end of a file, are together its whole dump. Assumes nothing.
+use Rattle.std.proofs.Common.{ℕ, ◌+◌, ◌<◌, ◌≤◌, ◌≡◌, refl, sym, ap, ◌∙◌, Bool, true, false, List, [], ◌++◌, append-nil, length, ltb-true, ltb-false, arith}
+use Rattle.std.specs.Prelude.{ltb}
+use borrow.Author.Tests.{le-ltb}
 use Rattle.words.specs.Word.{when◌then◌else◌}
-use Rattle.report.proofs.PutLaws.{front}
+use Rattle.sheet.proofs.RequestLaws.{taken}
+use Rattle.report.specs.declared.page.Page.{Page}
 use Rattle.interpreter.specs.State.{empty_state, too_long}
 use Rattle.vcd.specs.Text.{recording_text}
+use Rattle.course.specs.Through.{Through}
+use Rattle.course.specs.Through.Through.{none, accepted, refused, ended}
+use Rattle.course.specs.Walk.{Begin, Leads}
+use Rattle.course.proofs.Pieces.{Calls, together, calls_text}
 use Rattle.dump.specs.Dump.{opening, requests_dump, dump_of}
-use Rattle.dump.specs.Advance.{Moment, moment, moment_of, first_text, most_put, Begin, Fill}
+use Rattle.dump.specs.Laws.{dump_long}
+use Rattle.dump.specs.Advance.{Moment, moment, moment_of, lines, first_text, Begins, recorded}
 use Rattle.dump.specs.declared.Recording.{Recording}
-use Rattle.dump.specs.declared.Recorded.{Recorded}
-use Rattle.dump.proofs.DumpLaws.{left_of, rest_from, rest_past, rest_from_lem, Early, through_early, through_rest}
+use Rattle.dump.proofs.DumpLaws.{left_of, rest_from, rest_past, rest_from_lem, Early, through_rest}
 
--- Calls from a recording on, each from the recording that the one before handed back, up to a place past the end of the file; and the piece
--- that each of them puts. A call past the end is not made.
-pub data Calls (file : List ℕ) : Recording → List (List ℕ) → Type 0 where
-  ended : {s : Recording} → length file < s.at → Calls file s []
-  one_buffer : {s : Recording} {out after : List ℕ} {r : Recorded} {ps : List (List ℕ)} → s.at ≤ length file → most_put ≤ length out
-      → (f : Fill file s out after r) → Calls file r.recording ps → Calls file s (f.piece ∷ ps)
-
-unfoldable pub together : List (List ℕ) → List ℕ
-together [] = []
-together (p ∷ ps) = p ++ together ps
-
-calls_rest : {file : List ℕ} {s : Recording} {ps : List (List ℕ)} → length file ≤ 65536 → Early (moment_of s) → Calls file s ps
-    → rest_from file (moment_of s) ≡ together ps
-unfolding together
-calls_rest {file} {s} few e (ended h) = rest_past file (moment_of s) h
-calls_rest few e (one_buffer h m f c) =
-    through_rest e few f.through ∙ ap (λ (l : List ℕ). f.piece ++ l) (calls_rest few (through_early e f.through) c)
+-- Past the end of a file no line is taken.
+none_past : {file : List ℕ} {from : Moment} → length file < from.at → {piece : List ℕ} {p : Moment} → Through lines file from piece p → (piece ≡ []) × (length file < p.at)
+none_past h none = (refl, h)
+none_past {file} h (accepted {p = p} {r} {next} c f a) = let s = taken file p.at r next f in absurd (omega (arith, (none_past h c).1, s.further, s.within))
+none_past {file} h (refused {p = p} {r} {next} c f a) = let s = taken file p.at r next f in absurd (omega (arith, (none_past h c).1, s.further, s.within))
+none_past h (ended c l f) = absurd (omega (arith, (none_past h c).1))
 
 -- ---- the whole dump
-
--- in a file that is too long no call is made
-pub dump_long : (file : List ℕ) → 65536 < length file → dump_of file ≡ []
-unfolding dump_of too_long when◌then◌else◌
-dump_long file h = rw (lt-ltb 65536 (length file) h)
-
-no_calls : {file : List ℕ} {s : Recording} {ps : List (List ℕ)} → length file < s.at → Calls file s ps → [] ≡ together ps
-unfolding together
-no_calls h (ended l) = refl
-no_calls h (one_buffer l m f c) = absurd (omega arith)
 
 dump_rest : (file : List ℕ) → length file ≤ 65536 → dump_of file ≡ rest_from file (moment 0 empty_state 0)
 unfolding dump_of requests_dump recording_text left_of first_text opening empty_state too_long when◌then◌else◌
 dump_rest file h = rw (le-ltb 65536 (length file) h, rest_from_lem file (moment 0 empty_state 0) (omega arith))
 
-pub calls_dump : {file : List ℕ} {r : Recording} {ps : List (List ℕ)} → Begin file r → Calls file r ps → dump_of file ≡ together ps
+-- What the lines from the beginning up to the end add is the dump.
+pub whole : {file : List ℕ} {c : Recording} {piece : List ℕ} → Begins file c → (d : Recording) → Leads recorded file c piece d → length file < d.at → dump_of file ≡ piece
 unfolding too_long when◌then◌else◌
-calls_dump {file} {r} {ps} b c = go (ltb 65536 (length file)) refl b.at
+whole {file} {c} {piece} b d through past = go (ltb 65536 (length file)) refl b.at
   where
-    go : (z : Bool) → ltb 65536 (length file) ≡ z → r.at ≡ (when z then length file + 1 else 0) → dump_of file ≡ together ps
-    go true e f = dump_long file (ltb-true 65536 (length file) e) ∙ no_calls (omega (arith, f)) c
+    go : (z : Bool) → ltb 65536 (length file) ≡ z → c.at ≡ (when z then length file + 1 else 0) → dump_of file ≡ piece
+    go true e f = dump_long file (ltb-true 65536 (length file) e) ∙ sym (none_past (omega (arith, f)) through).0
     go false e f =
         let few = ltb-false 65536 (length file) e in
-        let start : moment_of r ≡ moment 0 empty_state 0 = b.moment_is ∙ ap (λ (i : ℕ). moment i empty_state 0) f in
-        let early : Early (moment_of r) = omega (arith, ap (λ (p : Moment). p.time) start) in
-        dump_rest file few ∙ ap (rest_from file) (sym start) ∙ calls_rest few early c
+        let start : moment_of c ≡ moment 0 empty_state 0 = b.moment_is ∙ ap (λ (i : ℕ). moment i empty_state 0) f in
+        let early : Early (moment_of c) = omega (arith, ap (λ (p : Moment). p.time) start) in
+        dump_rest file few ∙ ap (rest_from file) (sym start) ∙ through_rest early few through
+        ∙ ap (λ (l : List ℕ). piece ++ l) (rest_past file (moment_of d) past) ∙ append-nil piece
 
--- each call goes further, so that there are at most as many as places are left
-pub calls_end : {file : List ℕ} {s : Recording} {ps : List (List ℕ)} → Calls file s ps → length ps ≤ suc (length file) - s.at
-calls_end (ended h) = omega arith
-calls_end (one_buffer h m f c) = omega (arith, f.further m h, calls_end c)
-
--- what `fill` leaves at the start of the buffer, up to the place that it answers, is its piece
-pub fill_exact : {file out after : List ℕ} {s : Recording} {r : Recorded} (f : Fill file s out after r) → take r.to after ≡ f.piece
-fill_exact f = front f.fits f.put
+pub calls_dump : {file : List ℕ} {c : Recording} {page after : Page} {ps : List (List ℕ)} → Begin recorded file c page after → Calls recorded file c ps
+    → dump_of file ≡ together ps
+calls_dump b calls = calls_text b calls

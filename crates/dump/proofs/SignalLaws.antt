@@ -1,32 +1,36 @@
 -- Laws of the signals of motors, one motor after another, by the states of their outputs. Assumes nothing.
-use Prim.Native.Nat.{ℕ, zero, suc, ◌+◌, ◌*◌, ◌<◌, ◌≤◌}
-use mathlib.Core.Path.{◌≡◌, refl, sym, ap, ◌∙◌}
-use mathlib.Core.Bool.{Bool, true, false, ◌||◌}
-use mathlib.Core.List.{List, [], ◌∷◌, ◌++◌, append-nil}
-use native.Mathlib.Omega.{arith}
+use Rattle.std.proofs.Common.{ℕ, zero, suc, ◌+◌, ◌-◌, ◌*◌, ◌<◌, ◌≤◌, ◌≡◌, refl, sym, ap, ◌∙◌, Bool, true, false, List, [], ◌∷◌, ◌++◌, append_assoc, length, arith}
+use Rattle.std.specs.Prelude.{◌||◌, eqb, min, take, drop, set, get_or}
+use Rattle.std.specs.List.{zip, list_any}
 use native.Mathlib.Numerals.{add-one}
-use lib.Dec.{eqb}
-use lib.ListN.{length, take, set, get_or, length-append, length-map, get_or-map}
-use lib.Seq.{take-suc, take-suc-set, take_all, length-take-le}
+use lib.ListN.{length-append, length-map, get_or-map, drop_of_length-le}
+use native.Mathlib.Decide.{dec_le}
+use lib.Seq.{take-suc, take-suc-set, drop-cons}
 use borrow.Author.Tests.{eq-eqb, ne_eqb}
 use Rattle.words.specs.Word.{when◌then◌else◌}
 use Rattle.words.proofs.Laws.{either}
 use Rattle.rules.specs.declared.Motor.{Motor}
 use Rattle.rules.specs.Record.{output_on, output_off}
 use Rattle.sheet.specs.Split.{joined}
-use Rattle.vcd.specs.Text.{opening_of, code_of, wires_from, value_line, values_from, word_line, differs, change_line, changes_from, timed}
-use Rattle.vcd.proofs.TextLaws.{both_wires, wires_last, values_append, changes_append, timed_length, opening_length}
+use Rattle.report.specs.Puts.{Puts}
+use Rattle.report.specs.declared.page.Page.{Page}
+use Rattle.report.proofs.PutLaws.{puts_then}
+use Rattle.vcd.specs.Text.{opening_of, code_of, wires_from, on_name, off_name, wire_line, value_line, values_from, word_line, differs, change_line, changes_from, timed}
+use Rattle.vcd.proofs.TextLaws.{timed_length, opening_length}
 use Rattle.dump.specs.Dump.{output_state, output_states, state_signals, signals_of, opening}
 use Rattle.dump.specs.Advance.{first_text, scan_text}
 use Rattle.dump.specs.Signals.{first_by, scan_by, motor_differs, Tells}
 
 -- ---- one motor more
 
-pub wires_more : (i : ℕ) → wires_from 0 1 (i + 1) ≡ wires_from 0 1 i ++ both_wires (2 * i) (i + 1)
-wires_more i =
-    let e : 0 + 2 * i ≡ 2 * i = omega arith in
-    let f : 1 + i ≡ i + 1 = omega arith in
-    ap (wires_from 0 1) (add-one i) ∙ wires_last 0 1 i ∙ rw (e, f)
+-- Whoever puts the rest puts the whole.
+abbrev pub Completes : Page → List ℕ → Page → List ℕ → Type 0
+Completes from whole here rest = (q : Page) → Puts here rest q → Puts from whole q
+
+-- two lines more
+pub two_more : {from here mid later : Page} {whole rest a b c : List ℕ} → Completes from whole here rest → rest ≡ a ++ (b ++ c) → Puts here a mid → Puts mid b later
+    → Completes from whole later c
+two_more more e p k q h = more q (rw e (puts_then p (puts_then k h)))
 
 abbrev pub on : ℕ → Bool
 on s = eqb s output_on
@@ -34,50 +38,41 @@ on s = eqb s output_on
 abbrev pub off : ℕ → Bool
 off s = eqb s output_off
 
-signals_append : (ms : List ℕ) (m : ℕ) → state_signals (ms ++ (m ∷ [])) ≡ state_signals ms ++ (on m ∷ off m ∷ [])
-unfolding state_signals
-signals_append [] m = refl
-signals_append (n ∷ ms) m = ap (λ (l : List Bool). on n ∷ off n ∷ l) (signals_append ms m)
+pub wires_more : (i held : ℕ) → i < held → wires_from (2 * i) (i + 1) (held - i)
+    ≡ wire_line (code_of (2 * i)) (on_name (i + 1)) ++ (wire_line (code_of (2 * i + 1)) (off_name (i + 1)) ++ wires_from (2 * (i + 1)) (i + 1 + 1) (held - (i + 1)))
+unfolding wires_from
+wires_more i held h =
+    let e : held - i ≡ suc (held - (i + 1)) = omega arith in
+    let f : 2 * (i + 1) ≡ 2 * i + 2 = omega arith in
+    rw (e, f, append_assoc (wire_line (code_of (2 * i)) (on_name (i + 1))) (wire_line (code_of (2 * i + 1)) (off_name (i + 1))) (wires_from (2 * i + 2) (i + 1 + 1) (held - (i + 1))))
 
-states_length : (ms : List ℕ) → length (state_signals ms) ≡ 2 * length ms
-unfolding state_signals
-states_length [] = refl
-states_length (m ∷ ms) = omega (arith, states_length ms)
+pub values_more : (i : ℕ) (ss : List ℕ) (d : ℕ) → i < length ss → values_from (2 * i) (state_signals (drop i ss))
+    ≡ value_line (code_of (2 * i)) (on (get_or ss i d)) ++ (value_line (code_of (2 * i + 1)) (off (get_or ss i d)) ++ values_from (2 * (i + 1)) (state_signals (drop (i + 1) ss)))
+unfolding values_from state_signals
+values_more i ss d h =
+    let f : 2 * (i + 1) ≡ 2 * i + 1 + 1 = omega arith in
+    rw (f, drop-cons ss i d h, add-one i)
 
--- the first i motors have 2 i signals
-module _ (i : ℕ) (ms : List ℕ) (d : ℕ) (h : i < length ms) where
-  pub first_signals : length (state_signals (take i ms)) ≡ 2 * i
-  first_signals = omega (arith, states_length (take i ms), length-take-le i ms (omega arith))
+pub changes_more : (i : ℕ) (ss ts : List ℕ) (d e : ℕ) → i < length ss → i < length ts → changes_from (2 * i) (state_signals (drop i ss)) (state_signals (drop i ts))
+    ≡ change_line (code_of (2 * i)) (on (get_or ss i d)) (on (get_or ts i e)) ++ (change_line (code_of (2 * i + 1)) (off (get_or ss i d)) (off (get_or ts i e))
+    ++ changes_from (2 * (i + 1)) (state_signals (drop (i + 1) ss)) (state_signals (drop (i + 1) ts)))
+unfolding changes_from state_signals
+changes_more i ss ts d e h k =
+    let f : 2 * (i + 1) ≡ 2 * i + 1 + 1 = omega arith in
+    rw (f, drop-cons ss i d h, drop-cons ts i e k, add-one i)
 
-  -- one motor more
-  signals_more : state_signals (take (i + 1) ms) ≡ state_signals (take i ms) ++ (on (get_or ms i d) ∷ off (get_or ms i d) ∷ [])
-  signals_more = ap state_signals (rw (add-one i) (take-suc ms i d h)) ∙ signals_append (take i ms) (get_or ms i d)
+-- where either ends no more change
+pub changes_over : (i n : ℕ) (ss ts : List ℕ) → min (length ss) (length ts) ≤ n → changes_from i (state_signals (drop n ss)) (state_signals (drop n ts)) ≡ []
+unfolding changes_from state_signals
+changes_over i n ss ts h = go (dec_le (length ss) n)
+  where
+    over : (vs : List Bool) → changes_from i vs [] ≡ []
+    over [] = refl
+    over (v ∷ vs) = refl
 
-  pub values_more : values_from 0 (state_signals (take (i + 1) ms))
-      ≡ values_from 0 (state_signals (take i ms)) ++ (value_line (code_of (2 * i)) (on (get_or ms i d)) ++ value_line (code_of (2 * i + 1)) (off (get_or ms i d)))
-  unfolding values_from
-  values_more =
-      let e : 0 + length (state_signals (take i ms)) ≡ 2 * i = omega (arith, first_signals) in
-      rw (signals_more, values_append 0 (state_signals (take i ms)) (on (get_or ms i d) ∷ off (get_or ms i d) ∷ []), e, append-nil (value_line (code_of (2 * i + 1)) (off (get_or ms i d))))
-
-module _ (i : ℕ) (ms ns : List ℕ) (d e : ℕ) (h : i < length ms) (k : i < length ns) where
-  -- the changes of one motor
-  abbrev pub motor_changes : List ℕ
-  motor_changes = change_line (code_of (2 * i)) (on (get_or ms i d)) (on (get_or ns i e)) ++ change_line (code_of (2 * i + 1)) (off (get_or ms i d)) (off (get_or ns i e))
-
-  pub changes_more : changes_from 0 (state_signals (take (i + 1) ms)) (state_signals (take (i + 1) ns)) ≡ changes_from 0 (state_signals (take i ms)) (state_signals (take i ns)) ++ motor_changes
-  unfolding changes_from
-  changes_more =
-      let f = first_signals i ms d h in
-      let g = first_signals i ns e k in
-      let z : 0 + length (state_signals (take i ms)) ≡ 2 * i = omega (arith, f) in
-      rw (
-        signals_more i ms d h,
-        signals_more i ns e k,
-        changes_append 0 (state_signals (take i ms)) (state_signals (take i ns)) (on (get_or ms i d) ∷ off (get_or ms i d) ∷ []) (on (get_or ns i e) ∷ off (get_or ns i e) ∷ []) (f ∙ sym g),
-        z,
-        append-nil (change_line (code_of (2 * i + 1)) (off (get_or ms i d)) (off (get_or ns i e))),
-      )
+    go : Dec (length ss ≤ n) → changes_from i (state_signals (drop n ss)) (state_signals (drop n ts)) ≡ []
+    go (yes l) = rw (drop_of_length-le ss l)
+    go (no l) = rw (drop_of_length-le ts {i = n} (omega arith)) (over _)
 
 -- ---- whether there are any
 
@@ -102,35 +97,27 @@ tells_change code v w = go (differs v w)
     go true = no_cons
     go false = refl
 
-tells_motor : (i : ℕ) (m n : ℕ)
-    → Tells (change_line (code_of (2 * i)) (on m) (on n) ++ change_line (code_of (2 * i + 1)) (off m) (off n)) (motor_differs m n)
-unfolding motor_differs
-tells_motor i m n =
-    tells_both (change_line (code_of (2 * i)) (on m) (on n)) (change_line (code_of (2 * i + 1)) (off m) (off n)) (differs (on m) (on n)) (differs (off m) (off n)) (tells_change (code_of (2 * i)) (on m) (on n)) (tells_change (code_of (2 * i + 1)) (off m) (off n))
-
--- one motor more
-pub tells_more : (i : ℕ) (ms ns : List ℕ) (d e : ℕ) (any : Bool) → i < length ms → i < length ns
-    → Tells (changes_from 0 (state_signals (take i ms)) (state_signals (take i ns))) any
-    → Tells (changes_from 0 (state_signals (take (i + 1) ms)) (state_signals (take (i + 1) ns))) (any || motor_differs (get_or ms i d) (get_or ns i e))
-tells_more i ms ns d e any h k t =
-    rw (changes_more i ms ns d e h k) (tells_both (changes_from 0 (state_signals (take i ms)) (state_signals (take i ns))) (motor_changes i ms ns d e h k) any _ t (tells_motor i (get_or ms i d) (get_or ns i e)))
+pub tells_changes : (i : ℕ) (ss ts : List ℕ) → Tells (changes_from i (state_signals ss) (state_signals ts)) (list_any (λ (p : ℕ × ℕ). motor_differs p.0 p.1) (zip ss ts))
+unfolding changes_from state_signals motor_differs
+tells_changes i [] ts = refl
+tells_changes i (s ∷ ss) [] = refl
+tells_changes i (s ∷ ss) (t ∷ ts) =
+    let a = change_line (code_of i) (on s) (on t) in
+    let b = change_line (code_of (i + 1)) (off s) (off t) in
+    let c = changes_from (i + 1 + 1) (state_signals ss) (state_signals ts) in
+    rw (← append_assoc a b c)
+    (tells_both (a ++ b) c _ _ (tells_both a b _ _ (tells_change (code_of i) (on s) (on t)) (tells_change (code_of (i + 1)) (off s) (off t))) (tells_changes (i + 1 + 1) ss ts))
 
 -- ---- the same by the motors
+
+states_length : (ss : List ℕ) → length (state_signals ss) ≡ 2 * length ss
+unfolding state_signals
+states_length [] = refl
+states_length (s ∷ ss) = omega (arith, states_length ss)
 
 pub signals_length : (ms : List Motor) → length (signals_of ms) ≡ 2 * length ms
 unfolding signals_of
 signals_length ms = states_length (output_states ms) ∙ rw (length-map ms output_state)
-
--- of the first of them, and with one of them anew
-states_take : (n : ℕ) (ms : List Motor) → output_states (take n ms) ≡ take n (output_states ms)
-states_take zero ms = refl
-states_take (suc n) [] = refl
-states_take (suc n) (m ∷ ms) = ap (λ (l : List ℕ). m.output.state ∷ l) (states_take n ms)
-
-pub states_set : (ms : List Motor) (i : ℕ) (m : Motor) → output_states (set ms i m) ≡ set (output_states ms) i m.output.state
-states_set [] i m = refl
-states_set (n ∷ ms) zero m = refl
-states_set (n ∷ ms) (suc i) m = ap (λ (l : List ℕ). n.output.state ∷ l) (states_set ms i m)
 
 -- written one after another
 pub state_more : (ms : List Motor) (ss : List ℕ) (i : ℕ) (d : Motor) → i < length ms → i < length ss → take i ss ≡ take i (output_states ms)
@@ -141,20 +128,18 @@ state_more ms ss i d h k e =
     ∙ ap (λ (l : List ℕ). l ++ (output_state (get_or ms i d) ∷ [])) e
     ∙ sym (take-suc (output_states ms) i (output_state d) (omega (arith, length-map ms output_state)) ∙ rw (get_or-map output_state ms i d)))
 
-pub all_states : (ms : List Motor) (ss : List ℕ) → length ms ≡ 32 → length ss ≡ 32 → take 32 ss ≡ take 32 (output_states ms) → ss ≡ output_states ms
-all_states ms ss h k e =
-    sym (take_all 32 ss (omega arith)) ∙ e ∙ take_all 32 (output_states ms) (omega (arith, length-map ms output_state))
+pub states_take : (n : ℕ) (ms : List Motor) → output_states (take n ms) ≡ take n (output_states ms)
+states_take zero ms = refl
+states_take (suc n) [] = refl
+states_take (suc n) (m ∷ ms) = ap (λ (l : List ℕ). m.output.state ∷ l) (states_take n ms)
 
--- of the first motors of an array
-module _ (ms : List Motor) (held : ℕ) (h : held ≤ length ms) where
-  pub first_is : (scans : ℕ) → first_by scans held (take held (output_states ms)) ≡ first_text scans (take held ms)
-  unfolding first_by first_text opening signals_of
-  first_is scans = rw (← states_take held ms, length-take-le held ms h)
+pub first_is : (scans : ℕ) (ms : List Motor) → first_by scans (length (output_states ms)) (output_states ms) ≡ first_text scans ms
+unfolding first_by first_text opening signals_of
+first_is scans ms = rw (length-map ms output_state)
 
-  pub scan_is : (ns : List Motor) (scans time : ℕ) → scan_by scans time held (take held (output_states ms)) (take held (output_states ns)) ≡ scan_text scans time (take held ms) (take held ns)
-  unfolding scan_by scan_text signals_of
-  scan_is ns scans time =
-      rw (first_is scans, ← states_take held ms, ← states_take held ns)
+pub scan_is : (scans time : ℕ) (ms ns : List Motor) → scan_by scans time (length (output_states ms)) (output_states ms) (output_states ns) ≡ scan_text scans time ms ns
+unfolding scan_by scan_text signals_of
+scan_is scans time ms ns = rw (first_is scans ms)
 
 -- ---- header and #0, where no scan ran yet
 

@@ -3,3 +3,4 @@ pub mod Advance
 pub mod Signals
 pub mod Claim
 pub mod Opened
+pub mod Laws

@@ -19,10 +19,11 @@ use Rattle.report.specs.Print.{row_of, totals_row_of, refusal_of}
 use Rattle.report.proofs.PrintLaws.{row_length, totals_length}
 use Rattle.totals.specs.declared.Totals.{Totals}
 use Rattle.totals.specs.Totals.{under_way_in}
-use Rattle.interpreter.specs.State.{State, next_number, refusal_for, changed, states_after, too_long}
-use Rattle.print.specs.Print.{motor_row, rows_of, answer_of, totals_row, print_from, print_of}
-use Rattle.print.specs.Advance.{Place, over, running_print, at_end, Through, most_put}
-use Rattle.print.specs.Advance.Through.{none, accepted as one_accepted, refused, ended}
+use Rattle.interpreter.specs.State.{State, next_number, refusal_for, changed, states_after}
+use Rattle.print.specs.Print.{motor_row, rows_of, answer_of, totals_row, print_from}
+use Rattle.course.specs.Through.{Through}
+use Rattle.course.specs.Through.Through.{none, accepted as one_accepted, refused, ended}
+use Rattle.print.specs.Advance.{Place, over, running_print, at_end, print_lines, most_put}
 use Rattle.interpreter.proofs.ActLaws.{accepted, not_accepted}
 
 -- ---- the rows of the motors
@@ -142,7 +143,7 @@ nothing_left : (file : List ℕ) (p : Place) (piece : List ℕ) → piece ≡ pi
 nothing_left file p piece = sym (ap (λ (l : List ℕ). piece ++ l) (rest_past file (length file + 1) p.state p.line (omega arith)) ∙ append-nil piece)
 
 module _ {file : List ℕ} {from : Place} where
-  pub through_rest : {piece : List ℕ} {p : Place} → Through file from piece p → rest_at file from ≡ piece ++ rest_at file p
+  pub through_rest : {piece : List ℕ} {p : Place} → Through print_lines file from piece p → rest_at file from ≡ piece ++ rest_at file p
   through_rest none = refl
   through_rest (one_accepted {piece} {p} {r} {next} c f h) =
       through_rest c
@@ -156,16 +157,3 @@ module _ {file : List ℕ} {from : Place} where
       through_rest c
       ∙ ap (λ (l : List ℕ). piece ++ l) (rest_end file p.at p.state p.line l (done file p.at f))
       ∙ nothing_left file p (piece ++ at_end p.state)
-
-  -- lines, and then more
-  pub through_then : {mid to : Place} {front back : List ℕ} → Through file from front mid → Through file mid back to → Through file from (front ++ back) to
-  through_then {front = front} c none = rw (append-nil front) c
-  through_then {front = front} c (one_accepted {piece} {p} {r} d f h) = rw (← append_assoc front piece (answer_of (changed p.state r) r)) (one_accepted (through_then c d) f h)
-  through_then {front = front} c (refused {piece} {p} {r} d f h) = rw (← append_assoc front piece (refusal_of p.line (refusal_for p.state r))) (refused (through_then c d) f h)
-  through_then {front = front} c (ended {piece} {p} d l f) = rw (← append_assoc front piece (at_end p.state)) (ended (through_then c d) l f)
-
--- ---- the print of a file that is too long
-
-pub print_long : (file : List ℕ) → 65536 < length file → print_of file ≡ refusal_of 0 1
-unfolding print_of too_long when◌then◌else◌
-print_long file h = rw (lt-ltb 65536 (length file) h)

@@ -24,25 +24,25 @@ use Rattle.totals.specs.declared.Totals.{Totals}
 use Rattle.totals.specs.Running.{on_after, totals_after, scan_totals, all_totals}
 use Rattle.totals.proofs.Lists.{none_taken, length_totals, one_counted}
 use Rattle.totals.proofs.AtRest.{with_on, rest_totals}
-use Rattle.sheet.specs.declared.Request.TheVariants.{Scan as S}
 use Rattle.std.specs.Prelude.{Some}
-use Rattle.report.specs.Put.{Put}
+use Rattle.sheet.specs.declared.Request.TheVariants.{Scan as S}
+use Rattle.report.specs.Puts.{Puts}
+use Rattle.report.specs.declared.page.Page.{Page}
 use Rattle.report.specs.Print.{row_of}
-use Rattle.report.proofs.PutLaws.{put_none, then as and_then}
+use Rattle.report.proofs.PutLaws.{puts_none, puts_then}
 use Rattle.interpreter.specs.State.{next_number}
 use Rattle.interpreter.specs.Lines.{InputRun, ReadyBench}
 use Rattle.print.specs.Print.{motor_row, rows_of}
-use Rattle.print.specs.Advance.{most_put}
-use Rattle.print.specs.Runs.{Scans}
+use Rattle.course.specs.Walk.{Room, Run}
+use Rattle.print.specs.Course.{print_walk}
 use Rattle.print.specs.declared.Sitting.{Sitting}
-use Rattle.print.specs.declared.Advanced.{Advanced}
 use Rattle.interpreter.specs.declared.lines.Inputs.{Inputs}
 use Rattle.sheet.specs.Grammar.{next_at}
 use Rattle.interpreter.proofs.ActLaws.{take_used}
 use Rattle.print.proofs.PrintLaws.{rows_more}
 use Rattle.interpreter.proofs.ScanLaws.{rested, due, all_due, range_kept}
 use Rattle.interpreter.proofs.LineLaws.{words_right, same_size as words_size}
-use Rattle.print.proofs.AdvanceLaws.{standing, scans_more}
+use Rattle.print.proofs.AdvanceLaws.{sitting, run_scan}
 
 -- ---- one motor
 
@@ -72,17 +72,17 @@ module _ (ms : List Motor) (ts : List Totals) (i : ℕ) (m : Motor) (t : Totals)
 
 -- ---- the first i motors are scanned, counted and printed
 
-pub record Scanning (motors₀ : List Motor) (totals₀ : List Totals) (words : List ℕ) (period scans : ℕ) (out₀ : List ℕ) (to₀ : ℕ) (motors : List Motor) (totals : List Totals) (out : List ℕ) (to i : ℕ) : Type 0 where
+pub record Scanning (motors₀ : List Motor) (totals₀ : List Totals) (words : List ℕ) (period scans : ℕ) (page₀ : Page) (motors : List Motor) (totals : List Totals) (page : Page) (i : ℕ) : Type 0 where
   pub records : motors ≡ step_all motors₀ (take i words) period
   pub counted : totals ≡ all_totals totals₀ motors₀ (take i words) period
-  pub put : Put out₀ to₀ (rows_of scans 1 (take i motors)) out to
+  pub put : Puts page₀ (rows_of scans 1 (take i motors)) page
 
-module _ {motors₀ : List Motor} {totals₀ : List Totals} {words : List ℕ} {period scans : ℕ} {out₀ : List ℕ} {to₀ : ℕ} where
-  pub scanning_none : Scanning motors₀ totals₀ words period scans out₀ to₀ motors₀ totals₀ out₀ to₀ 0
+module _ {motors₀ : List Motor} {totals₀ : List Totals} {words : List ℕ} {period scans : ℕ} {page₀ : Page} where
+  pub scanning_none : Scanning motors₀ totals₀ words period scans page₀ motors₀ totals₀ page₀ 0
   unfolding rows_of
-  scanning_none = record { records = sym (none_stepped motors₀ period); counted = sym (none_taken totals₀ motors₀ period); put = put_none }
+  scanning_none = record { records = sym (none_stepped motors₀ period); counted = sym (none_taken totals₀ motors₀ period); put = puts_none }
 
-  module _ {motors : List Motor} {totals : List Totals} {out : List ℕ} {to i : ℕ} (s : Scanning motors₀ totals₀ words period scans out₀ to₀ motors totals out to i) where
+  module _ {motors : List Motor} {totals : List Totals} {page : Page} {i : ℕ} (s : Scanning motors₀ totals₀ words period scans page₀ motors totals page i) where
     -- the next one stands as it was
     pub waiting : (d : Motor) → get_or motors i d ≡ get_or motors₀ i d
     waiting d = rw s.records (not_yet motors₀ words period i d)
@@ -94,11 +94,11 @@ module _ {motors₀ : List Motor} {totals₀ : List Totals} {words : List ℕ} {
     same_totals = rw s.counted (length_totals totals₀ motors₀ (take i words) period)
 
     -- it is scanned, counted and printed
-    pub scanning_more : (d : Motor) (z : Totals) {later : List Motor} {more : List Totals} {after : List ℕ} {next : ℕ} → i < length motors₀ → i < length totals₀ → i < length words
+    pub scanning_more : (d : Motor) (z : Totals) {later : List Motor} {more : List Totals} {after : Page} → i < length motors₀ → i < length totals₀ → i < length words
         → later ≡ set motors i (step (get_or motors i d) (get_or words i 0) period)
         → more ≡ set totals i (scan_totals (get_or totals i z) (get_or motors i d) (get_or words i 0) period)
-        → Put out to (row_of (motor_row scans (i + 1) (get_or later i d))) after next
-        → Scanning motors₀ totals₀ words period scans out₀ to₀ later more after next (i + 1)
+        → Puts page (row_of (motor_row scans (i + 1) (get_or later i d))) after
+        → Scanning motors₀ totals₀ words period scans page₀ later more after (i + 1)
     scanning_more d z {later} l k m e f p =
         record {
           records = e ∙ rw (waiting d, s.records, add-one i) (one_more motors₀ words period i d l m);
@@ -106,7 +106,7 @@ module _ {motors₀ : List Motor} {totals₀ : List Totals} {words : List ℕ} {
           put =
               let size : i < length later = omega (arith, ap length e, length-set motors i (step (get_or motors i d) (get_or words i 0) period), same_size) in
               let front : take i later ≡ take i motors = ap (take i) e ∙ take-set-le i motors i _ (omega arith) in
-              rw (rows_more scans i later d size, front) (and_then s.put p);
+              rw (rows_more scans i later d size, front) (puts_then s.put p);
         }
 
     -- all are
@@ -115,7 +115,7 @@ module _ {motors₀ : List Motor} {totals₀ : List Totals} {words : List ℕ} {
 
 -- ---- a run of I lines and an S line, whose motors are all scanned and printed
 
-module _ {file : List ℕ} {s : Sitting} {out : List ℕ} {to last : ℕ} {here : Sitting} {after : List ℕ} {n : ℕ} (r : Scans file s out to last after (record { sitting = here; to = n })) (i : Inputs) (is : length here.bench.motors ≡ 32) (ts : length here.bench.totals ≡ 32) (js : length here.bench.words ≡ 32) (ready : ReadyBench here.bench) (run : InputRun file (min here.bench.count most_motors) here.bench.words here.at here.line i) where
+module _ {file : List ℕ} {s here : Sitting} {page after : Page} (r : Run print_walk file s page here after) (i : Inputs) (is : length here.bench.motors ≡ 32) (ts : length here.bench.totals ≡ 32) (js : length here.bench.words ≡ 32) (ready : ReadyBench here.bench) (run : InputRun file (min here.bench.count most_motors) here.bench.words here.at here.line i) where
   abbrev held : ℕ
   held = min here.bench.count most_motors
 
@@ -133,9 +133,9 @@ module _ {file : List ℕ} {s : Sitting} {out : List ℕ} {to last : ℕ} {here 
     pub each_due : (k : ℕ) (d : Motor) → k < min here.bench.count most_motors → one_refusal (get_or here.bench.motors k d) (get_or i.words k 0) period ≡ 0
     each_due k d l = due here.bench.motors i.words held few is js₁ ready.records right period time k d l
 
-    module _ {motors : List Motor} {totals : List Totals} {later : List ℕ} {m k : ℕ} (all : k ≡ min here.bench.count most_motors) (scan : Scanning here.bench.motors here.bench.totals i.words period (next_number here.bench.scans) after n motors totals later m k) where
-      abbrev pub after_scan : Advanced
-      after_scan = standing (record { motors = motors; totals = totals; words = i.words; count = here.bench.count; scans = next_number here.bench.scans }) next (next_number i.line) m
+    module _ {motors : List Motor} {totals : List Totals} {later : Page} {k : ℕ} (all : k ≡ min here.bench.count most_motors) (scan : Scanning here.bench.motors here.bench.totals i.words period (next_number here.bench.scans) after motors totals later k) where
+      abbrev pub after_scan : Sitting
+      after_scan = sitting (record { motors = motors; totals = totals; words = i.words; count = here.bench.count; scans = next_number here.bench.scans }) next (next_number i.line)
 
       accepted_scan : part_refusal here.bench.motors held i.words period ≡ 0
       accepted_scan = all_due here.bench.motors i.words held few is js₁ ready.records right period time
@@ -149,12 +149,12 @@ module _ {file : List ℕ} {s : Sitting} {out : List ℕ} {to last : ℕ} {here 
       size : length motors ≡ 32
       size = same_size scan ∙ is
 
-      pub line_scanned : n ≤ last → last + most_put ≤ length out
-          → (length motors ≡ 32) × (length totals ≡ 32) × (length i.words ≡ 32) × ReadyBench after_scan.sitting.bench × Scans file s out to last later after_scan
-      line_scanned h room = (
+      pub line_scanned : Room print_walk after
+          → (length motors ≡ 32) × (length totals ≡ 32) × (length i.words ≡ 32) × ReadyBench after_scan.bench × Run print_walk file s page after_scan later
+      line_scanned room = (
         size,
         same_totals scan ∙ ts,
         js₁,
         record { records = rw all_scanned (range_kept here.bench.motors i.words held few is js₁ ready.records right period time); words = right },
-        scans_more r i is ts js run found accepted_scan all_scanned all_counted h room (rw (take_used here.bench.count motors size, ← all) scan.put),
+        run_scan r i is run ts js found accepted_scan all_scanned all_counted room (rw (take_used here.bench.count motors size, ← all) scan.put),
       )

@@ -2,4 +2,5 @@ pub mod Print
 pub mod DecimalWords
 pub mod Advance
 pub mod Runs
+pub mod Course
 pub mod Opened

@@ -1,6 +1,6 @@
 pub mod PutLaws
 pub mod PrintLaws
-pub mod StoreLaws
+pub mod PageLaws
 pub mod ReadBack
 pub mod WrittenBack
 pub mod Vectors

@@ -8,6 +8,8 @@ use native.Mathlib.Nat.{add-zero}
 use lib.ListN.{length, take, drop, set, length-append}
 use lib.Seq.{sets, sets-eq, length-sets, set_out, take_at}
 use Rattle.report.specs.Put.{Put}
+use Rattle.report.specs.Puts.{Puts}
+use Rattle.report.specs.declared.page.Page.{Page}
 
 -- what is stored past the end is lost
 sets_out : (l : List ℕ) (i : ℕ) (b : List ℕ) → length l ≤ i → sets l i b ≡ l
@@ -59,3 +61,11 @@ pub front : {o b p : List ℕ} {n : ℕ} → length b ≤ length o → Put o 0 b
 front {o} {b} room h =
     let fits : 0 + length b ≤ length o = omega arith in
     rw (exact_list fits h, exact_place fits h) (take_at b (drop (0 + length b) o) (0 + length b) (omega arith))
+
+-- ---- the same of a page
+
+pub puts_none : {p : Page} → Puts p [] p
+puts_none = record { put = put_none; same_buffer = refl }
+
+pub puts_then : {p q r : Page} {a b : List ℕ} → Puts p a q → Puts q b r → Puts p (a ++ b) r
+puts_then h k = record { put = then h.put k.put; same_buffer = k.same_buffer ∙ h.same_buffer }

@@ -1,4 +1,5 @@
 pub mod Put
+pub mod Puts
 pub mod Print
 pub mod Store
 pub mod Written

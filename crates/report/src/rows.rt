@@ -1,147 +1,136 @@
 // A row stored where there is room for it: most of what is printed are rows, and one test of the place for the whole row is
 // cheaper than one for each byte.
-ghost use Rattle.std.specs.Prelude.{◌+◌, ◌≤◌, ◌<◌, true, ◌≡◌, [], ◌∷◌, leb};
-ghost use Rattle.report.specs.Put.{Put};
+ghost use Rattle.std.specs.Prelude.{◌+◌, ◌<◌, ◌≤◌, [], ◌∷◌, length};
+ghost use Rattle.report.specs.Puts.{Puts};
+ghost use Rattle.report.specs.Store.{Takes, pair_of};
 ghost use Rattle.report.specs.Print.{decimal, after_comma, row_of};
-ghost use Rattle.report.specs.Store.{RoomFor, states_of, short_states};
 
-use crate::{COMMA, LF, Row, put_number};
+use crate::{Page, Row};
+use sheet::{COMMA, LF};
 
 // The longest row: R, eight fields of a comma and ten digits, LF.
 const LONGEST: usize = 90;
 
-// Whether the longest row finds room in a buffer of this length, at this place.
-pub fn has_room(length: usize, at: usize) -> bool
-    ensures { result ≡ leb (at + 90) length }
-{
-    if length < at {
-        return false;
+impl<'a> Page<'a> {
+    // R,scan,number,mode,position,command,end,output,flags
+    #[tactic(auto, using(crate::proofs::PageLaws::all_below), unfolding(crate::specs::Print::row_of))]
+    pub fn row(&mut self, row: Row)
+        ensures { Puts self.old (row_of row) self.new }
+    {
+        // nearly all rows go this way; the states have one digit each if all their bits together are below ten
+        let states = row.mode | row.position | row.command | row.end | row.output;
+        if self.room() >= LONGEST && states < 10 {
+            return self.store_row(row);
+        }
+        let numbers = [
+            row.scan,
+            row.number,
+            row.mode,
+            row.position,
+            row.command,
+            row.end,
+            row.output,
+            row.flags,
+        ];
+        self.line(b'R', &numbers)
     }
-    LONGEST <= length - at
-}
 
-// Whether each of the five states has one digit.
-pub fn has_short_states(row: Row) -> bool
-    ensures { result ≡ short_states row }
-{
-    (row.mode < 10) & (row.position < 10) & (row.command < 10) & (row.end < 10) & (row.output < 10)
-}
-
-// One byte.
-fn store(out: &mut [u8], at: usize, b: u8) -> usize
-    requires { RoomFor out.old at (b ∷ []) }
-    ensures { Put out.old at (b ∷ []) out.new result }
-{
-    out[at] = b;
-    at + 1
-}
-
-// A number of one digit. Then numbers of two to five digits, without a loop: the digits before the last, then the last.
-fn store_digit(out: &mut [u8], at: usize, n: u32) -> usize
-    requires { (n < 10) × RoomFor out.old at (decimal n) }
-    ensures { Put out.old at (decimal n) out.new result }
-{
-    store(out, at, 48 + n as u8)
-}
-
-fn store_two(out: &mut [u8], at: usize, n: u32) -> usize
-    requires { (10 ≤ n) × (n < 100) × RoomFor out.old at (decimal n) }
-    ensures { Put out.old at (decimal n) out.new result }
-{
-    let tens = n / 10;
-    let last = store_digit(out, at, tens);
-    store_digit(out, last, n - tens * 10)
-}
-
-fn store_three(out: &mut [u8], at: usize, n: u32) -> usize
-    requires { (100 ≤ n) × (n < 1000) × RoomFor out.old at (decimal n) }
-    ensures { Put out.old at (decimal n) out.new result }
-{
-    let tens = n / 10;
-    let last = store_two(out, at, tens);
-    store_digit(out, last, n - tens * 10)
-}
-
-fn store_four(out: &mut [u8], at: usize, n: u32) -> usize
-    requires { (1000 ≤ n) × (n < 10000) × RoomFor out.old at (decimal n) }
-    ensures { Put out.old at (decimal n) out.new result }
-{
-    let tens = n / 10;
-    let last = store_three(out, at, tens);
-    store_digit(out, last, n - tens * 10)
-}
-
-fn store_five(out: &mut [u8], at: usize, n: u32) -> usize
-    requires { (10000 ≤ n) × (n < 100000) × RoomFor out.old at (decimal n) }
-    ensures { Put out.old at (decimal n) out.new result }
-{
-    let tens = n / 10;
-    let last = store_four(out, at, tens);
-    store_digit(out, last, n - tens * 10)
-}
-
-// A number of any length; more than five digits are rare.
-fn store_number(out: &mut [u8], at: usize, n: u32) -> usize
-    requires { RoomFor out.old at (decimal n) }
-    ensures { Put out.old at (decimal n) out.new result }
-{
-    if n < 10 {
-        return store_digit(out, at, n);
+    fn store_row(&mut self, row: Row)
+        requires room { self.old.used + 90 ≤ length self.old.bytes.now }
+        requires states { (row.mode < 10) × (row.position < 10) × (row.command < 10) × (row.end < 10) × (row.output < 10) }
+        ensures { Puts self.old (row_of row) self.new }
+    {
+        self.store(b'R');
+        self.store_field(row.scan);
+        self.store_field(row.number);
+        self.store_state(row.mode);
+        self.store_state(row.position);
+        self.store_state(row.command);
+        self.store_state(row.end);
+        self.store_state(row.output);
+        self.store_field(row.flags);
+        self.store(LF)
     }
-    if n < 100 {
-        return store_two(out, at, n);
-    }
-    if n < 1000 {
-        return store_three(out, at, n);
-    }
-    if n < 10000 {
-        return store_four(out, at, n);
-    }
-    if n < 100000 {
-        return store_five(out, at, n);
-    }
-    put_number(out, at, n)
-}
 
-// A number after its comma.
-fn store_field(out: &mut [u8], at: usize, n: u32) -> usize
-    requires { RoomFor out.old at (after_comma n) }
-    ensures { Put out.old at (after_comma n) out.new result }
-{
-    let next = store(out, at, COMMA);
-    store_number(out, next, n)
-}
+    // A number of one digit after its comma.
+    fn store_state(&mut self, n: u32)
+        requires { (n < 10) × (self.old.used + 2 ≤ length self.old.bytes.now) }
+        ensures puts { Puts self.old (after_comma n) self.new }
+        ensures room { Takes self.old 2 self.new }
+    {
+        self.store(COMMA);
+        self.store_digit(n)
+    }
 
-// A number of one digit after its comma.
-fn store_state(out: &mut [u8], at: usize, n: u32) -> usize
-    requires { (n < 10) × RoomFor out.old at (after_comma n) }
-    ensures { Put out.old at (after_comma n) out.new result }
-{
-    let next = store(out, at, COMMA);
-    store_digit(out, next, n)
-}
+    // A number after its comma.
+    #[tactic(auto, using(crate::proofs::PutLaws::puts_then), unfolding(crate::specs::Print::after_comma))]
+    fn store_field(&mut self, n: u32)
+        requires { self.old.used + 11 ≤ length self.old.bytes.now }
+        ensures puts { Puts self.old (after_comma n) self.new }
+        ensures room { Takes self.old 11 self.new }
+    {
+        self.store(COMMA);
+        self.store_number(n)
+    }
 
-// mode,position,command,end,output, each after its comma.
-fn store_states(out: &mut [u8], at: usize, row: Row) -> usize
-    requires { (short_states row ≡ true) × RoomFor out.old at (states_of row) }
-    ensures { Put out.old at (states_of row) out.new result }
-{
-    let mut to = store_state(out, at, row.mode);
-    to = store_state(out, to, row.position);
-    to = store_state(out, to, row.command);
-    to = store_state(out, to, row.end);
-    store_state(out, to, row.output)
-}
+    // A number of up to five digits without a loop; longer ones are rare.
+    fn store_number(&mut self, n: u32)
+        requires { self.old.used + 10 ≤ length self.old.bytes.now }
+        ensures puts { Puts self.old (decimal n) self.new }
+        ensures room { Takes self.old 10 self.new }
+    {
+        if n < 10 {
+            return self.store_digit(n);
+        }
+        if n < 100 {
+            return self.store_pair(n);
+        }
+        let hundreds = n / 100;
+        let last = n - hundreds * 100;
+        if hundreds < 10 {
+            self.store_digit(hundreds);
+            return self.store_pair(last);
+        }
+        if hundreds < 100 {
+            self.store_pair(hundreds);
+            return self.store_pair(last);
+        }
+        if hundreds < 1000 {
+            let first = hundreds / 100;
+            self.store_digit(first);
+            self.store_pair(hundreds - first * 100);
+            return self.store_pair(last);
+        }
+        self.number(n)
+    }
 
-// R,scan,number,mode,position,command,end,output,flags
-pub fn store_row(out: &mut [u8], at: usize, row: Row) -> usize
-    requires { (short_states row ≡ true) × RoomFor out.old at (row_of row) }
-    ensures { Put out.old at (row_of row) out.new result }
-{
-    let mut to = store(out, at, b'R');
-    to = store_field(out, to, row.scan);
-    to = store_field(out, to, row.number);
-    to = store_states(out, to, row);
-    to = store_field(out, to, row.flags);
-    store(out, to, LF)
+    // Two digits.
+    #[tactic(auto, using(crate::proofs::PutLaws::puts_then), unfolding(crate::specs::Store::pair_of))]
+    fn store_pair(&mut self, n: u32)
+        requires { (n < 100) × (self.old.used + 2 ≤ length self.old.bytes.now) }
+        ensures puts { Puts self.old (pair_of n) self.new }
+        ensures room { Takes self.old 2 self.new }
+    {
+        let tens = n / 10;
+        self.store_digit(tens);
+        self.store_digit(n - tens * 10)
+    }
+
+    // One digit.
+    fn store_digit(&mut self, n: u32)
+        requires { (n < 10) × (self.old.used + 1 ≤ length self.old.bytes.now) }
+        ensures puts { Puts self.old ((48 + n) ∷ []) self.new }
+        ensures room { Takes self.old 1 self.new }
+    {
+        self.store(48 + n as u8)
+    }
+
+    fn store(&mut self, b: u8)
+        requires { self.old.used + 1 ≤ length self.old.bytes.now }
+        ensures puts { Puts self.old (b ∷ []) self.new }
+        ensures room { Takes self.old 1 self.new }
+    {
+        self.bytes[self.used] = b;
+        self.used += 1
+    }
 }

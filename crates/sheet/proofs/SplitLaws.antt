@@ -1,5 +1,5 @@
 -- Laws of `split` and `index_of`: what the first b of a list parts. Assumes nothing.
-use Prim.Native.Nat.{ℕ, zero, suc, ◌+◌, ◌-◌, ◌<◌, ◌≤◌, min}
+use Prim.Native.Nat.{ℕ, zero, suc, ◌+◌, ◌-◌, ◌<◌, ◌≤◌, min, max}
 use mathlib.Core.Path.{◌≡◌, refl, sym, ap, ◌∙◌}
 use mathlib.Core.Bool.{Bool, true, false}
 use mathlib.Core.List.{List, [], ◌∷◌, ◌++◌}
@@ -10,9 +10,15 @@ use lib.ListN.{length, take, drop, get_or, length-append, length-drop, drop_of_l
 use lib.Seq.{drop-cons, take_all, take-nil, take-suc}
 use lib.Dec.{eqb}
 use borrow.Author.Tests.{eq-eqb, ne_eqb, eqb-true, eqb-false}
+use Rattle.std.specs.Prelude.{Option, Some, None, count_by, cond, unwrap_or}
+use Rattle.std.specs.List.{slice_get, slice_split, onto_first}
+use Rattle.std.specs.Option.{option_copied}
+use Rattle.std.proofs.Common.{Bor}
+use Rattle.std.proofs.lemmas.Option.{unwrap_or-slice_get}
+use Rattle.std.proofs.lemmas.List.Splits.{length-slice_split}
 use Rattle.words.specs.Word.{when◌then◌else◌}
 use Rattle.words.proofs.Laws.{either}
-use Rattle.sheet.specs.Split.{comma, split, join_first, joined, index_of, between, field_of}
+use Rattle.sheet.specs.Split.{comma, split, join_first, joined, index_of, between, field_of, field_count}
 
 -- ---- the first b
 
@@ -28,6 +34,15 @@ module _ (b : ℕ) (s : List ℕ) (i : ℕ) (h : i < length s) where
 pub index_past : (b : ℕ) (s : List ℕ) (i : ℕ) → length s ≤ i → index_of b (drop i s) ≡ 0
 unfolding index_of
 index_past b s i h = rw (drop_of_length-le s h)
+
+-- the end, or the place itself past it, if the places passed have no b
+pub index_none : (b : ℕ) (s : List ℕ) (at i : ℕ) → at + index_of b (drop at s) ≡ i + index_of b (drop i s) → length s ≤ i → (at ≤ length s → i ≤ length s)
+    → max at (length s) ≡ at + index_of b (drop at s)
+index_none b s at i e h f = go (dec_le at (length s))
+  where
+    go : Dec (at ≤ length s) → max at (length s) ≡ at + index_of b (drop at s)
+    go (yes l) = omega (arith, index_past b s i h, f l)
+    go (no l) = omega (arith, index_past b s at (omega arith))
 
 pub index_le : (b : ℕ) (s : List ℕ) → index_of b s ≤ length s
 unfolding index_of
@@ -172,6 +187,34 @@ unfolding split
 parts_past b s i h = rw (drop_of_length-le s h)
 
 -- ---- the fields of a line
+
+-- by std's words
+split_is : (b : ℕ) (s : List ℕ) → split b s ≡ slice_split (λ x. eqb x b) s
+unfolding split join_first when◌then◌else◌
+split_is b [] = refl
+split_is b (x ∷ s) = rw (split_is b s) (go (eqb x b) (slice_split (λ y. eqb y b) s))
+  where
+    first : (ps : List (List ℕ)) → join_first x ps ≡ onto_first x ps
+    first [] = refl
+    first (p ∷ ps) = refl
+
+    go : (t : Bool) (ps : List (List ℕ)) → (when t then [] ∷ ps else join_first x ps) ≡ cond t ([] ∷ ps) (onto_first x ps)
+    go true ps = refl
+    go false ps = first ps
+
+pub fields_counted : (s : List ℕ) → field_count s ≡ count_by (λ b. eqb b comma) s + 1
+unfolding field_count
+fields_counted s = rw (split_is comma s) (length-slice_split (λ b. eqb b comma) s)
+
+pub field_by : (s : List ℕ) (k : ℕ) → unwrap_or (slice_get (slice_split (λ b. eqb b comma) s) k) [] ≡ field_of s k
+unfolding field_of
+field_by s k = unwrap_or-slice_get (slice_split (λ b. eqb b comma) s) k [] ∙ sym (ap (λ (ps : List (List ℕ)). get_or ps k []) (split_is comma s))
+
+-- a lent part, or else an empty one
+pub lent_or : (r : Option (Bor (List ℕ))) (x d : Bor (List ℕ)) (o : Option (List ℕ)) → x ≡ unwrap_or r d → d.now ≡ [] → option_copied r ≡ o
+    → x.now ≡ unwrap_or o []
+lent_or None x d o e n p = rw (e, ← p) n
+lent_or (Some y) x d o e n p = rw (e, ← p) refl
 
 pub first_field : (s : List ℕ) → take (index_of comma s) s ≡ field_of s 0
 unfolding field_of

@@ -10,8 +10,8 @@ mod requests;
 mod search;
 mod word_fields;
 
-pub use fields::{count_fields, field};
-pub use lines::{find_lf, index_from, next_line, part};
+pub use fields::{COMMA, count_fields, field};
+pub use lines::{LF, find_lf, index_from, next_line, part};
 pub use numbers::read_number;
 pub use quick::{is_at, next_request};
 pub use requests::{parse, refusal};

@@ -1,41 +1,42 @@
 // The next request of a file. Lines of the two common kinds, I and S, are read once, where they stand in the file. What
 // cannot be read so is left to the reader of any line: a reading here may fail for any reason, but must not be wrong.
-ghost use Rattle.std.specs.Prelude.{◌≡◌, true, ◌≤◌};
+ghost use Rattle.std.specs.Prelude.{◌≡◌, true, ◌≤◌, ◌-◌, get_or, IfSome, Some};
+ghost use Rattle.std.specs.Bool.{then_some};
 ghost use Rattle.sheet.specs.Number.{number_of};
 ghost use Rattle.sheet.specs.WordField.{word_of};
 ghost use Rattle.sheet.specs.Grammar.{letter_i, letter_s, next_at};
-ghost use Rattle.sheet.specs.Places.{is_at, is_digit_at, begins_with, ends_line, Read, NumberRead};
+ghost use Rattle.sheet.specs.Places.{is_at, is_digit_at, begins_with, ends_line, Read};
 
 use crate::Request;
 use crate::fields::COMMA;
 use crate::lines::{LF, LONGEST, part};
-use crate::numbers::{LARGEST, wide};
+use crate::numbers::digit;
+
+// The largest number that is read. A test against it is quicker here than `checked_mul` and `checked_add` of 32 bits are.
+const LARGEST: u64 = 4294967295;
+
 use crate::requests::{INPUT, SCAN, request_at};
 use crate::word_fields::{has_0x, hex_run};
 
 // Whether a place of a file has this byte.
+#[tactic(auto, unfolding(crate::specs::Places::is_at))]
 pub fn is_at(file: &[u8], at: usize, b: u8) -> bool
     ensures { result ≡ is_at file.now at b }
 {
-    if at < file.len() {
-        return file[at] == b;
-    }
-    false
+    file.get(at) == Some(&b)
 }
 
-// Whether it has a digit.
-fn is_digit_at(file: &[u8], at: usize) -> bool
-    ensures { result ≡ is_digit_at file.now at }
+// The value of the digit that stands there.
+#[tactic(auto, unfolding(crate::specs::Places::is_digit_at))]
+fn digit_at(file: &[u8], at: usize) -> Option<u32>
+    ensures { result ≡ then_some (is_digit_at file.now at) (get_or file.now at 0 - 48) }
 {
-    if at < file.len() {
-        let b = file[at];
-        return (48 <= b) & (b <= 57);
-    }
-    false
+    digit(*file.get(at)?)
 }
 
 // The number at a place of a file. A 0 is read alone, so that no leading zero is taken: a digit after it stands where the
 // caller looks for the end of the field.
+#[tactic(auto, unfolding(crate::specs::Places::Read))]
 fn number_at(file: &[u8], at: usize) -> Option<(u32, usize)>
     ensures { Read number_of file.now at result }
 {
@@ -44,27 +45,24 @@ fn number_at(file: &[u8], at: usize) -> Option<(u32, usize)>
     }
     let mut value: u64 = 0;
     let mut i = at;
-    while is_digit_at(file, i) {
-        value = value * 10 + (wide(file[i]) - 48);
+    while let Some(digit) = digit_at(file, i) {
+        value = value * 10 + digit as u64;
         if LARGEST < value {
             return None;
         }
         i += 1;
     }
-    if value == 0 {
-        return None;
-    }
-    Some((value as u32, i))
+    (at < i).then_some((value as u32, i))
 }
 
-// The word at a place of a file, in hexadecimal.
-fn hex_word_at(file: &[u8], at: usize) -> Option<(u32, usize)>
+// The word at a place of a file.
+fn word_at(file: &[u8], at: usize) -> Option<(u32, usize)>
     ensures { Read word_of file.now at result }
 {
     if has_0x(part(file, at, file.len())) {
         return hex_run(file, at + 2);
     }
-    None
+    number_at(file, at)
 }
 
 // Whether a field of this letter alone stands at a place of a file, and a comma after it.
@@ -88,66 +86,50 @@ fn ends_line(file: &[u8], at: usize, end: usize) -> bool
 // The request of a line that begins with an S.
 fn scan_at(file: &[u8], at: usize) -> Option<(Request, usize)>
     requires { begins_with file.now at letter_s ≡ true }
-    ensures { result ≡ next_at file.now at }
+    ensures { IfSome result (λ r. next_at file.now at ≡ Some r) }
 {
-    let Some((period, end)) = number_at(file, at + 2) else {
-        return request_at(file, at);
-    };
-    if ends_line(file, at, end) {
-        return Some((Request::Scan { period }, end + 1));
+    let (period, end) = number_at(file, at + 2)?;
+    if !ends_line(file, at, end) {
+        return None;
     }
-    request_at(file, at)
+    Some((Request::Scan { period }, end + 1))
 }
 
-// The request of an I line whose number is read; its word may be hexadecimal.
-fn hex_input_at(file: &[u8], at: usize, number: u32, parting: usize) -> Option<(Request, usize)>
-    requires { NumberRead file.now at number parting }
-    ensures { result ≡ next_at file.now at }
-{
-    let Some((value, end)) = hex_word_at(file, parting + 1) else {
-        return request_at(file, at);
-    };
-    if ends_line(file, at, end) {
-        return Some((
-            Request::Input {
-                number,
-                word: value,
-            },
-            end + 1,
-        ));
-    }
-    request_at(file, at)
-}
-
-// The request of a line that begins with an I. Its word is taken for decimal first, as most are.
+// The request of a line that begins with an I.
 fn input_at(file: &[u8], at: usize) -> Option<(Request, usize)>
     requires { begins_with file.now at letter_i ≡ true }
-    ensures { result ≡ next_at file.now at }
+    ensures { IfSome result (λ r. next_at file.now at ≡ Some r) }
 {
-    let Some((number, parting)) = number_at(file, at + 2) else {
-        return request_at(file, at);
-    };
+    let (number, parting) = number_at(file, at + 2)?;
     if !is_at(file, parting, COMMA) {
-        return request_at(file, at);
+        return None;
     }
-    let Some((word, end)) = number_at(file, parting + 1) else {
-        return request_at(file, at);
-    };
-    if ends_line(file, at, end) {
-        return Some((Request::Input { number, word }, end + 1));
+    let (word, end) = word_at(file, parting + 1)?;
+    if !ends_line(file, at, end) {
+        return None;
     }
-    hex_input_at(file, at, number, parting)
+    Some((Request::Input { number, word }, end + 1))
 }
 
-// The request of the line at a place of a file, and the place after that line, as `request_at` gives them.
-pub fn next_request(file: &[u8], at: usize) -> Option<(Request, usize)>
-    ensures { result ≡ next_at file.now at }
+// The request of a line of one of the two kinds, if it can be read so.
+fn quick_request(file: &[u8], at: usize) -> Option<(Request, usize)>
+    ensures { IfSome result (λ r. next_at file.now at ≡ Some r) }
 {
     if begins_with(file, at, INPUT) {
         return input_at(file, at);
     }
     if begins_with(file, at, SCAN) {
         return scan_at(file, at);
+    }
+    None
+}
+
+// The request of the line at a place of a file, and the place after that line, as `request_at` gives them.
+pub fn next_request(file: &[u8], at: usize) -> Option<(Request, usize)>
+    ensures { result ≡ next_at file.now at }
+{
+    if let Some(read) = quick_request(file, at) {
+        return Some(read);
     }
     request_at(file, at)
 }

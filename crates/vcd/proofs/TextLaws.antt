@@ -9,19 +9,18 @@ use Rattle.words.proofs.Laws.{either}
 use Rattle.sheet.specs.Split.{joined}
 use Rattle.report.specs.Print.{decimal}
 use Rattle.report.proofs.PrintLaws.{decimal_length}
-use Rattle.vcd.specs.Text.{word_line, word_end, code_of, on_name, off_name, wire_line, wires_from, frame_start, frame_end, header_of, time_line, value_line, values_from, differs, change_line, changes_from, timed, opening_of}
-use Rattle.vcd.specs.WireStart.{wire_start}
+use Rattle.vcd.specs.Text.{blank, word_line, word_one, word_var, word_wire, word_end, code_of, on_name, off_name, wire_line, wires_from, frame_start, frame_end, header_of, time_line, value_line, values_from, differs, change_line, changes_from, timed, opening_of}
 
 -- ---- a wire's line in two parts
 
--- "on $end" and "off $end", and an LF
-pub on_wire : (code number : ℕ) → wire_line (code ∷ []) (on_name number) ≡ wire_start code number ++ 111 ∷ 110 ∷ 32 ∷ 36 ∷ 101 ∷ 110 ∷ 100 ∷ 10 ∷ []
-unfolding wire_line wire_start word_line on_name joined
-on_wire code number = rw (append_assoc (decimal number ++ 111 ∷ 110 ∷ []) (32 ∷ word_end) (10 ∷ []), append_assoc (decimal number) (111 ∷ 110 ∷ []) (32 ∷ word_end ++ 10 ∷ []))
+-- up to the number of its motor
+unfoldable pub wire_start : ℕ → ℕ → List ℕ
+wire_start code number = joined blank (word_var ∷ word_wire ∷ word_one ∷ (code ∷ []) ∷ (109 ∷ decimal number) ∷ [])
 
-pub off_wire : (code number : ℕ) → wire_line (code ∷ []) (off_name number) ≡ wire_start code number ++ 111 ∷ 102 ∷ 102 ∷ 32 ∷ 36 ∷ 101 ∷ 110 ∷ 100 ∷ 10 ∷ []
-unfolding wire_line wire_start word_line off_name joined
-off_wire code number = rw (append_assoc (decimal number ++ 111 ∷ 102 ∷ 102 ∷ []) (32 ∷ word_end) (10 ∷ []), append_assoc (decimal number) (111 ∷ 102 ∷ 102 ∷ []) (32 ∷ word_end ++ 10 ∷ []))
+-- and from the end of its name on
+pub wire_parts : (code number : ℕ) (end : List ℕ) → wire_line (code ∷ []) (109 ∷ decimal number ++ end) ≡ wire_start code number ++ (end ++ 32 ∷ word_end ++ 10 ∷ [])
+unfolding wire_line wire_start word_line joined
+wire_parts code number end = simp append_assoc
 
 -- ---- one more
 
@@ -79,7 +78,7 @@ unfolding wire_start joined
 start_length i number = omega (arith, decimal_length number)
 
 wires_length : (i number n : ℕ) → length (wires_from i number n) ≤ 67 * n
-unfolding wires_from code_of
+unfolding wires_from code_of on_name off_name
 wires_length i number zero = omega arith
 wires_length i number (suc n) =
     let on = wire_line ((33 + i) ∷ []) (on_name number) in
@@ -91,8 +90,8 @@ wires_length i number (suc n) =
       e,
       length-append (on ++ off) rest,
       length-append on off,
-      ap length (on_wire (33 + i) number),
-      ap length (off_wire (33 + (i + 1)) number),
+      ap length (wire_parts (33 + i) number (111 ∷ 110 ∷ [])),
+      ap length (wire_parts (33 + (i + 1)) number (111 ∷ 102 ∷ 102 ∷ [])),
       length-append (wire_start (33 + i) number) (111 ∷ 110 ∷ 32 ∷ 36 ∷ 101 ∷ 110 ∷ 100 ∷ 10 ∷ []),
       length-append (wire_start (33 + (i + 1)) number) (111 ∷ 102 ∷ 102 ∷ 32 ∷ 36 ∷ 101 ∷ 110 ∷ 100 ∷ 10 ∷ []),
       start_length i number,

@@ -2,4 +2,4 @@ pub mod Text
 pub mod Reader
 pub mod Expected
 pub mod Opened
-pub mod WireStart
+pub mod Wires

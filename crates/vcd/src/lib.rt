@@ -1,77 +1,62 @@
-// The lines of a value change dump (IEEE 1364), put into a lent buffer. What they are is defined in specs/Text.antt, and what a dump says
+// The lines of a value change dump (IEEE 1364), put into a page. What they are is defined in specs/Text.antt, and what a dump says
 // to a reader in specs/Reader.antt.
 #![tactic(auto)]
 
 ghost use Rattle.std.specs.Prelude.{◌≡◌, [], ◌∷◌};
-ghost use Rattle.report.specs.Put.{Put};
-ghost use Rattle.vcd.specs.WireStart.{wire_start};
-ghost use Rattle.vcd.specs.Text.{on_name, off_name, wire_line, frame_start, frame_end, time_line, digit_of, value_line};
+ghost use Rattle.report.specs.Puts.{Puts};
+ghost use Rattle.vcd.specs.Wires.{name_of};
+ghost use Rattle.vcd.specs.Text.{wire_line, frame_start, frame_end, time_line, digit_of, value_line};
 
-use report::{put_byte, put_number};
+use report::Page;
+use sheet::LF;
 
-const LF: u8 = b'\n';
-
-// Bytes one after another.
-fn put_text(out: &mut [u8], at: usize, text: &[u8]) -> usize
-    ensures { Put out.old at text.now out.new result }
-{
-    let mut to = at;
-    let mut i = 0;
-    while i < text.len() {
-        to = put_byte(out, to, text[i]);
-        i += 1;
-    }
-    to
+// The two outputs of a motor.
+#[derive(Clone, Copy, Debug, PartialEq, Eq)]
+pub enum Wire {
+    On,
+    Off,
 }
 
 // The header before its wires, and after them.
-pub fn put_frame_start(out: &mut [u8], at: usize) -> usize
-    ensures { Put out.old at frame_start out.new result }
+#[tactic(auto, unfolding(crate::specs::Opened::opened))]
+pub fn put_frame_start(page: &mut Page)
+    ensures { Puts page.old frame_start page.new }
 {
-    put_text(out, at, b"$timescale 1 ms $end\n$scope module bench $end\n")
+    page.text(b"$timescale 1 ms $end\n$scope module bench $end\n")
 }
 
-pub fn put_frame_end(out: &mut [u8], at: usize) -> usize
-    ensures { Put out.old at frame_end out.new result }
+#[tactic(auto, unfolding(crate::specs::Opened::opened))]
+pub fn put_frame_end(page: &mut Page)
+    ensures { Puts page.old frame_end page.new }
 {
-    put_text(out, at, b"$upscope $end\n$enddefinitions $end\n")
+    page.text(b"$upscope $end\n$enddefinitions $end\n")
 }
 
-// A wire up to its name's number.
-fn put_wire_start(out: &mut [u8], at: usize, code: u8, number: u32) -> usize
-    ensures { Put out.old at (wire_start code number) out.new result }
+// The wire of an output of the motor of this number.
+pub fn put_wire(page: &mut Page, wire: Wire, code: u8, number: u32)
+    ensures { Puts page.old (wire_line (code ∷ []) (name_of wire number)) page.new }
 {
-    let mut to = put_text(out, at, b"$var wire 1 ");
-    to = put_byte(out, to, code);
-    to = put_text(out, to, b" m");
-    put_number(out, to, number)
-}
-
-// The wires of a motor's two outputs.
-pub fn put_on_wire(out: &mut [u8], at: usize, code: u8, number: u32) -> usize
-    ensures { Put out.old at (wire_line (code ∷ []) (on_name number)) out.new result }
-{
-    let to = put_wire_start(out, at, code, number);
-    put_text(out, to, b"on $end\n")
-}
-
-pub fn put_off_wire(out: &mut [u8], at: usize, code: u8, number: u32) -> usize
-    ensures { Put out.old at (wire_line (code ∷ []) (off_name number)) out.new result }
-{
-    let to = put_wire_start(out, at, code, number);
-    put_text(out, to, b"off $end\n")
+    page.text(b"$var wire 1 ");
+    page.byte(code);
+    page.text(b" m");
+    page.number(number);
+    match wire {
+        Wire::On => page.text(b"on $end\n"),
+        Wire::Off => page.text(b"off $end\n"),
+    }
 }
 
 // #time
-pub fn put_time(out: &mut [u8], at: usize, time: u32) -> usize
-    ensures { Put out.old at (time_line time) out.new result }
+pub fn put_time(page: &mut Page, time: u32)
+    ensures { Puts page.old (time_line time) page.new }
 {
-    let mut to = put_byte(out, at, b'#');
-    to = put_number(out, to, time);
-    put_byte(out, to, LF)
+    page.byte(b'#');
+    page.number(time);
+    page.byte(LF)
 }
 
 // 1 or 0, as it is written.
+#[tactic(auto, unfolding(crate::specs::Opened::opened))]
 fn digit(value: bool) -> u8
     ensures { result ≡ digit_of value }
 {
@@ -82,10 +67,11 @@ fn digit(value: bool) -> u8
 }
 
 // A signal's value.
-pub fn put_value(out: &mut [u8], at: usize, code: u8, value: bool) -> usize
-    ensures { Put out.old at (value_line (code ∷ []) value) out.new result }
+#[tactic(auto, using(report::proofs::PutLaws::puts_then), unfolding(crate::specs::Opened::opened))]
+pub fn put_value(page: &mut Page, code: u8, value: bool)
+    ensures { Puts page.old (value_line (code ∷ []) value) page.new }
 {
-    let mut to = put_byte(out, at, digit(value));
-    to = put_byte(out, to, code);
-    put_byte(out, to, LF)
+    page.byte(digit(value));
+    page.byte(code);
+    page.byte(LF)
 }

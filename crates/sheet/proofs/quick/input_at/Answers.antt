@@ -16,25 +16,12 @@ overflow_add-parting c = omega (arith, byte_at _ _ comma (sym c.is_at.ensures �
 pub ends_line-requires : goal.ends_line-requires
 unfolding Read
 ends_line-requires c =
-    let n = c.in-Some.ensures in
-    let w = c.in-Some-number_at.ensures in
-    omega (arith, (parted (number_said n)).further, (parted (number_said w)).further)
+    omega (arith, (parted (number_said c.in_ok-number.ensures)).further, (parted c.in_ok-word.ensures).further)
 
 pub overflow_add-result : goal.overflow_add-result
-overflow_add-result c = omega (arith, ended_inside _ _ _ (sym c.ends_line.ensures ∙ c.if-ends_line.true))
+overflow_add-result c = omega (arith, ended_inside _ _ _ (sym c.ends_line.ensures ∙ c.if-not-ends_line.false))
 
-pub returns-then-ends_line : goal.returns-then-ends_line
+pub returns : goal.returns
 unfolding Read
-returns-then-ends_line c =
-    let n = c.in-Some.ensures in
-    let w = c.in-Some-number_at.ensures in
-    sym (input_next c.args.file.now c.args.at c.requires n (sym c.is_at.ensures ∙ c.if-not-is_at.false) (number_said w) (sym c.ends_line.ensures ∙ c.if-ends_line.true))
-
-pub hex_input_at-requires : goal.hex_input_at-requires
-unfolding Read
-hex_input_at-requires c =
-    record {
-      begins = c.requires;
-      number_said = c.in-Some.ensures;
-      parted = (sym c.is_at.ensures ∙ c.if-not-is_at.false);
-    }
+returns c =
+    input_next c.args.file.now c.args.at c.requires c.in_ok-number.ensures (sym c.is_at.ensures ∙ c.if-not-is_at.false) c.in_ok-word.ensures (sym c.ends_line.ensures ∙ c.if-not-ends_line.false)

@@ -11,12 +11,12 @@ overflow_add-at c =
 
 pub ends_line-requires : goal.ends_line-requires
 unfolding Read
-ends_line-requires c = omega (arith, (parted (number_said c.in-Some.ensures)).further)
+ends_line-requires c = omega (arith, (parted (number_said c.in_ok-period.ensures)).further)
 
 pub overflow_add-result : goal.overflow_add-result
-overflow_add-result c = omega (arith, ended_inside _ _ _ (sym c.ends_line.ensures ∙ c.if-ends_line.true))
+overflow_add-result c = omega (arith, ended_inside _ _ _ (sym c.ends_line.ensures ∙ c.if-not-ends_line.false))
 
-pub returns-then-ends_line : goal.returns-then-ends_line
+pub returns : goal.returns
 unfolding Read
-returns-then-ends_line c =
-    sym (scan_next c.args.file.now c.args.at c.requires c.in-Some.ensures (sym c.ends_line.ensures ∙ c.if-ends_line.true))
+returns c =
+    scan_next c.args.file.now c.args.at c.requires c.in_ok-period.ensures (sym c.ends_line.ensures ∙ c.if-not-ends_line.false)

@@ -17,24 +17,24 @@ kind l f k n a b d letter count = rw (a, b, d)
 pub returns-then-kind-count : goal.returns-then-kind-count
 unfolding request_of when◌then◌else◌
 returns-then-kind-count c =
-    let k = kind _ _ _ _ c.letter-kind.ensures c.first.ensures c.count_fields-count.ensures in
-    c.motor_line.ensures ∙ sym (rw (k 77 6 ∙ c.if-kind-count.true))
+    let k = kind _ _ _ _ c.letter-kind.ensures c.field.ensures c.count_fields-count.ensures in
+    c.unwrap_or.ensures ∙ c.motor.ensures ∙ sym (rw (k 77 6 ∙ c.if-kind-count.true))
 
 pub returns-then-kind-count-2 : goal.returns-then-kind-count-2
 unfolding request_of when◌then◌else◌
 returns-then-kind-count-2 c =
-    let k = kind _ _ _ _ c.letter-kind.ensures c.first.ensures c.count_fields-count.ensures in
-    c.input_line.ensures ∙ sym (rw (k 77 6 ∙ c.if-kind-count.false, k 73 3 ∙ c.if-kind-count-2.true))
+    let k = kind _ _ _ _ c.letter-kind.ensures c.field.ensures c.count_fields-count.ensures in
+    c.unwrap_or-then-kind-count-2.ensures ∙ c.input.ensures ∙ sym (rw (k 77 6 ∙ c.if-kind-count.false, k 73 3 ∙ c.if-kind-count-2.true))
 
 pub returns-then-kind-count-3 : goal.returns-then-kind-count-3
 unfolding request_of when◌then◌else◌
 returns-then-kind-count-3 c =
-    let k = kind _ _ _ _ c.letter-kind.ensures c.first.ensures c.count_fields-count.ensures in
-    c.scan_line.ensures
+    let k = kind _ _ _ _ c.letter-kind.ensures c.field.ensures c.count_fields-count.ensures in
+    c.unwrap_or-then-kind-count-3.ensures ∙ c.scan.ensures
     ∙ sym (rw (k 77 6 ∙ c.if-kind-count.false, k 73 3 ∙ c.if-kind-count-2.false, k 83 2 ∙ c.if-kind-count-3.true))
 
 pub returns : goal.returns
 unfolding request_of when◌then◌else◌
 returns c =
-    let k = kind _ _ _ _ c.letter-kind.ensures c.first.ensures c.count_fields-count.ensures in
+    let k = kind _ _ _ _ c.letter-kind.ensures c.field.ensures c.count_fields-count.ensures in
     sym (rw (k 77 6 ∙ c.if-kind-count.false, k 73 3 ∙ c.if-kind-count-2.false, k 83 2 ∙ c.if-kind-count-3.false))

@@ -1,0 +1,4 @@
+pub mod ThroughLaws
+pub mod Runs
+pub mod Pieces
+pub mod Written

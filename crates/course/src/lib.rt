@@ -1,0 +1,85 @@
+// A walk through the lines of a file, which prints what they do, a lent buffer at a time. What a program makes of a line is its own,
+// behind the trait `Course`; that it comes to the print of the whole file is proved here, once.
+#![tactic(auto)]
+
+ghost use Rattle.std.specs.Prelude.{ℕ, ◌≤◌, ◌≡◌, length, IfSome, OnOk};
+ghost use Rattle.std.specs.Io.KnownBytes.{Appends};
+ghost use Rattle.course.specs.Walk.{Walk, Laws, place, NoScan, Begin, Advance, Scans, Fill};
+
+use report::Page;
+use std::alloc::Global;
+use std::io;
+use std::io::{Read, Write};
+
+// As much as a pipe holds, so that prints cost few writes.
+const ROOM_OUT: usize = 65536;
+
+// A place between two lines of a file, with what the lines up to there have led to.
+pub trait Course: Copy {
+    ghost walk: { Walk Self };
+
+    // The most bytes that a line prints, or the end.
+    ghost MOST_PUT: { ℕ };
+
+    const MOST_PUT: usize;
+
+    fn begin(file: &[u8], page: &mut Page) -> Self
+        ensures { Begin walk file.now result page.old page.new };
+
+    fn at(&self) -> usize
+        ensures { result ≡ place walk self.now };
+
+    // The I and S lines from here on, up to the first that is refused or of another kind, and as long as there is room.
+    fn scans(&mut self, file: &[u8], page: &mut Page)
+        ensures { Scans walk file.now self.old page.old self.new page.new };
+
+    // The next line, which is no accepted scan, or the file's end.
+    fn line(&mut self, file: &[u8], page: &mut Page)
+        requires here { place walk self.old ≤ length file.now }
+        requires no_scan { NoScan walk file.now self.old }
+        ensures { Advance walk file.now self.old page.old self.new page.new };
+
+    ghost most_put: { MOST_PUT ≡ walk.most_put };
+
+    ghost laws: { Laws walk };
+}
+
+// The next lines of a file, as many as there is room for.
+pub fn fill<C: Course>(here: &mut C, file: &[u8], page: &mut Page)
+    ensures { Fill C.walk file.now here.old page.old here.new page.new }
+{
+    while (here.at() <= file.len()) & (C::MOST_PUT <= page.room()) {
+        here.scans(file, page);
+        if C::MOST_PUT <= page.room() {
+            here.line(file, page);
+        }
+    }
+}
+
+// The print of a file, a buffer at a time.
+pub fn print<C: Course, W: Write>(file: &[u8], to: &mut W) -> io::Result<()>
+    ensures { OnOk result (Appends (W.contents to.old) (W.contents to.new) (C.walk.text file.now)) }
+{
+    let mut bytes = [0u8; ROOM_OUT];
+    let mut page = Page::new(&mut bytes);
+    let mut here = C::begin(file, &mut page);
+    to.write_all(page.filled())?;
+    while here.at() <= file.len() {
+        let mut page = Page::new(&mut bytes);
+        fill(&mut here, file, &mut page);
+        to.write_all(page.filled())?;
+    }
+    Ok(())
+}
+
+// The print of what stands in a reader.
+pub fn run<C: Course, R: Read + Drop, W: Write>(
+    alloc: Global,
+    from: R,
+    to: &mut W,
+) -> io::Result<()>
+    ensures { OnOk result (IfSome (R.remaining from) (λ file. Appends (W.contents to.old) (W.contents to.new) (C.walk.text file))) }
+{
+    let file = input::read_front(alloc, from)?;
+    print::<C, W>(&file, to)
+}

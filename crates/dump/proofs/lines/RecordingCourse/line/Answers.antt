@@ -1,0 +1,18 @@
+use Rattle.std.proofs.Common.{sym, ◌∙◌, arith}
+use Rattle.rules.proofs.Numbers.{number_positive}
+use Rattle.dump.proofs.AdvanceLaws.{at_end, goes_on, stops}
+use Rattle.dump.proofs.lines.RecordingCourse.line.Goals as goal
+
+pub returns-in-Ok : goal.returns-in-Ok
+returns-in-Ok c = goes_on c.act.new.self (sym c.next_request.ensures ∙ c.in-Some.is) c.requires.no_scan (sym c.in-Ok.ensures.refusal) c.in-Ok.ensures.state
+
+pub returns-in-Err : goal.returns-in-Err
+returns-in-Err c =
+    let f = rw c.in-Err.ensures.unchanged at c.finish.ensures in
+    stops f.put f.past f.few (sym c.next_request.ensures ∙ c.in-Some.is)
+    (λ z. absurd (omega (arith, c.in-Err.ensures.refusal, number_positive c.in-Err.field-0, z)))
+
+pub returns-in-None : goal.returns-in-None
+returns-in-None c =
+    let f = c.finish-in-None.ensures in
+    at_end f.put f.past f.few c.requires.here (sym c.next_request.ensures ∙ c.in-None.is)

@@ -1,0 +1,72 @@
+// A file taken line by line.
+ghost use Rattle.std.specs.Prelude.{◌≡◌, ◌≤◌, length, refl};
+ghost use Rattle.report.specs.Puts.{Puts};
+ghost use Rattle.dump.specs.Advance.{most_put, first_text, moment_of, past_end, recorded};
+ghost use Rattle.dump.specs.Laws.{recorded_laws};
+
+use crate::Recording;
+use crate::signals::Outputs;
+use course::Course;
+use interpreter::{Bench, is_too_long};
+use report::Page;
+use sheet::next_request;
+
+// The most bytes that a line of a file adds to the dump, or its end.
+pub const MOST_PUT: usize = 2633;
+
+impl Course for Recording {
+    ghost walk = { recorded };
+
+    ghost MOST_PUT = { most_put };
+
+    const MOST_PUT: usize = MOST_PUT;
+
+    // An empty bench before the first line of a file. Of a file that is too long there is no dump. The claim on reading back holds of
+    // every file; it stands here so that it cannot be lost.
+    fn begin(file: &[u8], _page: &mut Page) -> Recording {
+        let at = if is_too_long(file.len()) { file.len() + 1 } else { 0 };
+        Recording {
+            bench: Bench::empty(),
+            at,
+            time: 0,
+        }
+    }
+
+    fn at(&self) -> usize {
+        self.at
+    }
+
+    // A recording of which a scan would be refused for more than its period is left as it is.
+    fn scans(&mut self, file: &[u8], page: &mut Page) {
+        if self.bench.accept_scan(1).is_ok() {
+            self.scan_lines(file, page);
+        }
+    }
+
+    // A line that is accepted adds nothing. At a refused line the dump ends, as at the file's end.
+    fn line(&mut self, file: &[u8], page: &mut Page) {
+        match next_request(file, self.at) {
+            Some((request, next)) => match self.bench.act(request) {
+                Ok(()) => self.at = next,
+                Err(_) => self.finish(file, page),
+            },
+            None => self.finish(file, page),
+        }
+    }
+
+    ghost most_put = { refl };
+
+    ghost laws = { recorded_laws };
+}
+
+impl Recording {
+    // The end of the dump: where no scan ran, header and #0 are put.
+    fn finish(&mut self, file: &[u8], page: &mut Page)
+        ensures put { Puts page.old (first_text self.old.bench.scans (moment_of self.old).motors) page.new }
+        ensures past { moment_of self.new ≡ past_end file.now (moment_of self.old) }
+        ensures few { length (moment_of self.old).motors ≤ 32 }
+    {
+        Outputs::of_bench(self.bench).put_first(page, self.bench.scans);
+        self.at = file.len() + 1;
+    }
+}

@@ -1,0 +1,100 @@
+// A file taken line by line.
+ghost use Rattle.std.specs.Prelude.{◌≡◌, refl};
+ghost use Rattle.report.specs.Puts.{Puts};
+ghost use Rattle.totals.specs.Totals.{under_way_in};
+ghost use Rattle.interpreter.specs.State.{view_of};
+ghost use Rattle.print.specs.Print.{totals_row};
+ghost use Rattle.print.specs.Advance.{most_put, at_end};
+ghost use Rattle.print.specs.Course.{print_walk, print_laws};
+
+use crate::Sitting;
+use course::Course;
+use interpreter::{Bench, is_too_long, next_number};
+use report::{Page, TotalsRow};
+use rules::Motor;
+use sheet::next_request;
+use totals::Totals;
+use words::choose;
+
+// A motor's T line.
+fn totals_row(number: u32, m: Motor, t: Totals) -> TotalsRow
+    ensures { result ≡ totals_row number (under_way_in m.status) t }
+{
+    TotalsRow {
+        number,
+        issued: t.issued,
+        confirmed: t.confirmed,
+        displaced: t.displaced,
+        overdue: t.overdue,
+        underway: choose(m.status.command == 0, 0, 1),
+        on: t.on,
+        best: t.best,
+        worst: t.worst,
+    }
+}
+
+// What is printed at the end of a file: the T lines of a bench.
+#[tactic(auto, unfolding(rules::specs::Refusals::most_motors))]
+fn put_end(b: Bench, page: &mut Page)
+    ensures { Puts page.old (at_end (view_of b)) page.new }
+{
+    for i in 0..b.held() {
+        page.totals(totals_row(i as u32 + 1, b.motors[i], b.totals[i]));
+    }
+}
+
+impl Course for Sitting {
+    ghost walk = { print_walk };
+
+    ghost MOST_PUT = { most_put };
+
+    const MOST_PUT: usize = 3232;
+
+    // A file that is too long is refused, and has nothing more to print.
+    fn begin(file: &[u8], page: &mut Page) -> Sitting {
+        let mut s = Sitting {
+            bench: Bench::empty(),
+            at: 0,
+            line: 1,
+        };
+        if is_too_long(file.len()) {
+            page.refusal(0, 1);
+            s.at = file.len() + 1;
+        }
+        s
+    }
+
+    fn at(&self) -> usize {
+        self.at
+    }
+
+    // A bench of which a scan would be refused for more than its period is left as it is.
+    fn scans(&mut self, file: &[u8], page: &mut Page) {
+        if self.bench.accept_scan(1).is_ok() {
+            self.scan_lines(file, page);
+        }
+    }
+
+    // A refused line is the last.
+    fn line(&mut self, file: &[u8], page: &mut Page) {
+        let Some((request, next)) = next_request(file, self.at) else {
+            put_end(self.bench, page);
+            self.at = file.len() + 1;
+            return;
+        };
+        match self.bench.act(request) {
+            Ok(()) => {
+                self.at = next;
+                self.line = next_number(self.line);
+            }
+            Err(refusal) => {
+                page.refusal(self.line, u32::from(refusal));
+                self.at = file.len() + 1;
+            }
+        }
+    }
+
+    ghost most_put = { refl };
+
+    ghost laws = { print_laws };
+}

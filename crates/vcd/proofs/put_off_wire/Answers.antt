@@ -1,6 +1,0 @@
-use Rattle.report.proofs.PutLaws.{then}
-use Rattle.vcd.proofs.TextLaws.{off_wire}
-use Rattle.vcd.proofs.put_off_wire.Goals as goal
-
-pub returns : goal.returns
-returns c = rw (off_wire _ _) (then c.put_wire_start-to.ensures c.put_text.ensures)
