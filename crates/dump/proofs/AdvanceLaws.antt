@@ -165,7 +165,6 @@ after_scan s ms period next =
       time = capped (s.time + period);
     }
 
-
 -- the motors in use are scanned as a table, and those past them stay
 pub in_use_scanned : (b : Bench) (period : ℕ) {held : ℕ} {ms : List Motor} → held ≡ min b.count most_motors
     → ms ≡ table_after (take held b.motors) (take held b.words) period → ms ++ drop held b.motors ≡ part_after b.motors (min b.count most_motors) b.words period

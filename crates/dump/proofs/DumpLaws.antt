@@ -3,12 +3,12 @@
 use Rattle.std.proofs.lemmas.Bool.Decides.{nat_tests}
 use Prim.Native.Nat.{ℕ, ◌+◌, ◌*◌, ◌<◌, ◌≤◌}
 use mathlib.Core.Path.{◌≡◌, refl, sym, ap, ◌∙◌}
-use mathlib.Core.Bool.{Bool, true, false, not, ◌||◌}
+use mathlib.Core.Bool.{Bool, true, false, not}
 use mathlib.Core.List.{List, [], ◌∷◌, ◌++◌, append_assoc, append-nil}
 use native.Mathlib.Omega.{arith}
+use native.Mathlib.Decide.{dec_le}
 use lib.Dec.{eqb, ltb}
 use lib.ListN.{length, drop}
-use borrow.Author.Tests.{eq-eqb, ne_eqb, lt-ltb, le-ltb}
 use Rattle.words.specs.Word.{when◌then◌else◌}
 use Rattle.rules.specs.declared.Motor.{Motor}
 use Rattle.rules.proofs.Tables.{accepted as table-in-limits}
@@ -26,6 +26,14 @@ use Rattle.dump.specs.Dump.{signals_of, time_after, sample_of, samples_from, is_
 use Rattle.course.specs.Through.{Through}
 use Rattle.course.specs.Through.Through.{none, accepted, refused, ended}
 use Rattle.dump.specs.Advance.{Moment, moment, state_of, past_end, clock_after, moment_after, first_text, scan_text, added, lines}
+
+-- a request is accepted or refused
+pub by_refusal : (t : State) (r : Request) {P : Type 0} → (refusal_for t r ≡ 0 → P) → ((refusal_for t r ≡ 0 → ⊥) → P) → P
+by_refusal t r {P} a b = go (dec_le (refusal_for t r) 0)
+  where
+    go : Dec (refusal_for t r ≤ 0) → P
+    go (yes l) = a (omega (arith, l))
+    go (no f) = b (λ e. f (omega (arith, e)))
 
 -- ---- the first of some requests
 
