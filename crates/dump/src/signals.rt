@@ -94,6 +94,7 @@ impl Outputs {
         &self.states[..self.held]
     }
 
+    #[tactic(auto, using(crate::proofs::SignalLaws::all_left, crate::proofs::SignalLaws::wires_put, crate::proofs::SignalLaws::wires_end))]
     fn put_wires(&self, page: &mut Page)
         ensures { Puts page.old (wires_from 0 1 (length self.now)) page.new }
     {
@@ -103,6 +104,7 @@ impl Outputs {
         }
     }
 
+    #[tactic(auto, using(crate::proofs::SignalLaws::all_left, crate::proofs::SignalLaws::values_put, crate::proofs::SignalLaws::values_end))]
     fn put_values(&self, page: &mut Page)
         ensures { Puts page.old (values_from 0 (state_signals self.now)) page.new }
     {
@@ -141,6 +143,7 @@ impl Outputs {
     }
 
     // The signals that changed, by number.
+    #[tactic(auto, using(crate::proofs::SignalLaws::all_left, crate::proofs::SignalLaws::changes_put, crate::proofs::SignalLaws::changes_end))]
     fn put_changes(&self, page: &mut Page, before: &Outputs)
         ensures { Puts page.old (changes_from 0 (state_signals before.now) (state_signals self.now)) page.new }
     {
