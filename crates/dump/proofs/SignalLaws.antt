@@ -5,7 +5,7 @@ use Rattle.std.specs.List.{zip, list_any}
 use native.Mathlib.Numerals.{add-one}
 use lib.ListN.{length-append, length-map, get_or-map, drop_of_length-le}
 use native.Mathlib.Decide.{dec_le}
-use lib.Seq.{take-suc, take-suc-set, drop-cons}
+use lib.Seq.{take-suc, take-suc-set, take_all, drop-cons}
 use borrow.Author.Tests.{eq-eqb, ne_eqb}
 use Rattle.words.specs.Word.{when◌then◌else◌}
 use Rattle.words.proofs.Laws.{either}
@@ -153,18 +153,16 @@ unfolding signals_of
 signals_length ms = states_length (output_states ms) ∙ rw (length-map ms output_state)
 
 -- written one after another
-pub state_more : (ms : List Motor) (ss : List ℕ) (i : ℕ) (d : Motor) → i < length ms → i < length ss → take i ss ≡ take i (output_states ms)
+pub state_more : (ms : List Motor) (ss : List ℕ) (i : ℕ) (d : Motor) → i < length ms → length ms ≤ 32 → length ss ≡ 32 → take i ss ≡ take i (output_states ms)
     → take (i + 1) (set ss i (get_or ms i d).output.state) ≡ take (i + 1) (output_states ms)
-state_more ms ss i d h k e =
+state_more ms ss i d h few is e =
     rw (add-one i)
-    (take-suc-set ss i (output_state (get_or ms i d)) k
+    (take-suc-set ss i (output_state (get_or ms i d)) (omega arith)
     ∙ ap (λ (l : List ℕ). l ++ (output_state (get_or ms i d) ∷ [])) e
     ∙ sym (take-suc (output_states ms) i (output_state d) (omega (arith, length-map ms output_state)) ∙ rw (get_or-map output_state ms i d)))
 
-pub states_take : (n : ℕ) (ms : List Motor) → output_states (take n ms) ≡ take n (output_states ms)
-states_take zero ms = refl
-states_take (suc n) [] = refl
-states_take (suc n) (m ∷ ms) = ap (λ (l : List ℕ). m.output.state ∷ l) (states_take n ms)
+pub all_states : (ms : List Motor) (ss : List ℕ) (i : ℕ) → i ≡ length ms → take i ss ≡ take i (output_states ms) → take (length ms) ss ≡ output_states ms
+all_states ms ss i f e = rw (← f) (e ∙ take_all i (output_states ms) (omega (arith, f, length-map ms output_state)))
 
 pub first_is : (scans : ℕ) (ms : List Motor) → first_by scans (length (output_states ms)) (output_states ms) ≡ first_text scans ms
 unfolding first_by first_text opening signals_of

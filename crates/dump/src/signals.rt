@@ -65,6 +65,7 @@ impl Model for Outputs {
 }
 
 impl Outputs {
+    #[tactic(auto, using(crate::proofs::SignalLaws::state_more, crate::proofs::SignalLaws::all_states))]
     pub fn of(motors: &[Motor]) -> Outputs
         requires { length motors.now ≤ 32 }
         ensures { result ≡ output_states motors.now }
