@@ -38,17 +38,11 @@ use Rattle.dump.proofs.SignalLaws.{first_length, scan_length}
 
 pub same_moment : (b : Bench) (at next time : ℕ) (r : Request) → moment_after next (bench_at at b time) r ≡ moment next (changed (view_of b) r) (clock_after time r)
 unfolding changed with_motor with_word with_words with_scan
-same_moment b at next time (M number ops1 ops2 w u) = refl
-same_moment b at next time (I number word) = refl
-same_moment b at next time (S period) = refl
-same_moment b at next time Refused = refl
+same_moment b at next time r = grind (arith)
 
 pub same_refusal : (b : Bench) (at time : ℕ) (r : Request) → refusal_for (state_of (bench_at at b time)) r ≡ refusal_for (view_of b) r
 unfolding refusal_for scan_refusal
-same_refusal b at time (M number ops1 ops2 w u) = refl
-same_refusal b at time (I number word) = refl
-same_refusal b at time (S period) = refl
-same_refusal b at time Refused = refl
+same_refusal b at time r = grind (arith)
 
 -- ---- one line, or the end
 
@@ -170,7 +164,6 @@ after_scan s ms period next =
       at = next;
       time = capped (s.time + period);
     }
-
 
 -- the motors in use are scanned as a table, and those past them stay
 pub in_use_scanned : (b : Bench) (period : ℕ) {held : ℕ} {ms : List Motor} → held ≡ min b.count most_motors

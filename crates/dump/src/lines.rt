@@ -24,7 +24,11 @@ impl Course for Recording {
     // An empty bench before the first line of a file. Of a file that is too long there is no dump. The claim on reading back holds of
     // every file; it stands here so that it cannot be lost.
     fn begin(file: &[u8], _page: &mut Page) -> Recording {
-        let at = if is_too_long(file.len()) { file.len() + 1 } else { 0 };
+        let at = if is_too_long(file.len()) {
+            file.len() + 1
+        } else {
+            0
+        };
         Recording {
             bench: Bench::empty(),
             at,

@@ -64,7 +64,11 @@ impl Recording {
             let Some((period, next)) = next_scan(file, inputs.at) else {
                 break;
             };
-            scan(&mut self.bench.motors[..held], &inputs.words[..held], period);
+            scan(
+                &mut self.bench.motors[..held],
+                &inputs.words[..held],
+                period,
+            );
             let after = Outputs::of(&self.bench.motors[..held]);
             self.time = totals::plus(self.time, period);
             after.put_scan(page, self.bench.scans, self.time, &before);

@@ -65,6 +65,7 @@ impl Model for Outputs {
 }
 
 impl Outputs {
+    #[tactic(auto, using(crate::proofs::SignalLaws::state_more, crate::proofs::SignalLaws::all_states))]
     pub fn of(motors: &[Motor]) -> Outputs
         requires { length motors.now ≤ 32 }
         ensures { result ≡ output_states motors.now }
@@ -94,6 +95,7 @@ impl Outputs {
         &self.states[..self.held]
     }
 
+    #[tactic(auto, using(crate::proofs::SignalLaws::all_left, crate::proofs::SignalLaws::wires_put, crate::proofs::SignalLaws::wires_end))]
     fn put_wires(&self, page: &mut Page)
         ensures { Puts page.old (wires_from 0 1 (length self.now)) page.new }
     {
@@ -103,6 +105,7 @@ impl Outputs {
         }
     }
 
+    #[tactic(auto, using(crate::proofs::SignalLaws::all_left, crate::proofs::SignalLaws::values_put, crate::proofs::SignalLaws::values_end))]
     fn put_values(&self, page: &mut Page)
         ensures { Puts page.old (values_from 0 (state_signals self.now)) page.new }
     {
@@ -141,6 +144,7 @@ impl Outputs {
     }
 
     // The signals that changed, by number.
+    #[tactic(auto, using(crate::proofs::SignalLaws::all_left, crate::proofs::SignalLaws::changes_put, crate::proofs::SignalLaws::changes_end))]
     fn put_changes(&self, page: &mut Page, before: &Outputs)
         ensures { Puts page.old (changes_from 0 (state_signals before.now) (state_signals self.now)) page.new }
     {
