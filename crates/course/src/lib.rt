@@ -45,6 +45,7 @@ pub trait Course: Copy {
 }
 
 // The next lines of a file, as many as there is room for.
+#[tactic(auto, using(crate::proofs::Runs::nothing_yet, crate::proofs::Runs::run_on))]
 pub fn fill<C: Course>(here: &mut C, file: &[u8], page: &mut Page)
     ensures { Fill C.walk file.now here.old page.old here.new page.new }
 {
