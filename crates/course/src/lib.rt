@@ -45,6 +45,7 @@ pub trait Course: Copy {
 }
 
 // The next lines of a file, as many as there is room for.
+#[tactic(auto, using(crate::proofs::Runs::nothing_yet, crate::proofs::Runs::run_on))]
 pub fn fill<C: Course>(here: &mut C, file: &[u8], page: &mut Page)
     ensures { Fill C.walk file.now here.old page.old here.new page.new }
 {
@@ -61,9 +62,9 @@ pub fn print<C: Course, W: Write>(file: &[u8], to: &mut W) -> io::Result<()>
     ensures { OnOk result (Appends (W.contents to.old) (W.contents to.new) (C.walk.text file.now)) }
 {
     let mut bytes = [0u8; ROOM_OUT];
-    let mut page = Page::new(&mut bytes);
-    let mut here = C::begin(file, &mut page);
-    to.write_all(page.filled())?;
+    let mut opening = Page::new(&mut bytes);
+    let mut here = C::begin(file, &mut opening);
+    to.write_all(opening.filled())?;
     while here.at() <= file.len() {
         let mut page = Page::new(&mut bytes);
         fill(&mut here, file, &mut page);

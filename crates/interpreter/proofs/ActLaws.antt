@@ -8,7 +8,7 @@ use Rattle.rules.specs.declared.Motor.{Motor}
 use Rattle.rules.specs.declared.Settings.{Settings}
 use Rattle.rules.specs.Record.{fresh}
 use Rattle.rules.specs.Refusals.{most_motors, table_refusal, table_after, part_refusal, part_after}
-use Rattle.rules.proofs.Tables.{length_after}
+use Rattle.rules.proofs.Tables.{table_accepted, table_refused, length_after}
 use Rattle.sheet.specs.declared.Request.{Request}
 use Rattle.sheet.specs.declared.Request.TheVariants.{Motor as M, Input as I, Scan as S, Refused}
 use Rattle.sheet.specs.Grammar.{request_refusal}
@@ -126,3 +126,11 @@ module _ (b : Bench) (is : length b.motors ≡ 32) (js : length b.words ≡ 32) 
         → view_of (record { motors = records; totals = totals; words = b.words; count = b.count; scans = next_number b.scans }) ≡ state_after (view_of b) (S period)
     unfolding changed with_scan
     scanned_state period ok f g = grind (arith, accepted, scan_refusal_lem, scan_motors, scan_totals_lem)
+
+-- ---- what `add`, `set_word` and `scan` rest on
+
+pub ruleset adds = (used, motor_room, refused, motor_added)
+
+pub ruleset sets = (used, input_there, refused, word_set)
+
+pub ruleset scans = (common_steps, table_accepted, table_refused, length_after, refused, scan_code, scanned)

@@ -133,7 +133,7 @@ impl Bench {
     }
 
     // M: a fresh motor, which holds the word 0, after those that are there.
-    #[tactic(auto, using(crate::proofs::ActLaws::used, crate::proofs::ActLaws::motor_room, crate::proofs::ActLaws::refused, crate::proofs::ActLaws::motor_added), unfolding(crate::specs::State::refusal_for, rules::specs::Refusals::most_motors))]
+    #[tactic(auto, using(crate::proofs::ActLaws::adds), unfolding(crate::specs::State::refusal_for, rules::specs::Refusals::most_motors))]
     fn add(&mut self, number: u32, settings: Settings) -> Result<(), Refusal>
         ensures refusal { code_of result ≡ refusal_for (view_of self.old) (M number settings.ops1 settings.ops2 settings.w settings.u) }
         ensures state { view_of self.new ≡ state_after (view_of self.old) (M number settings.ops1 settings.ops2 settings.w settings.u) }
@@ -149,7 +149,7 @@ impl Bench {
     }
 
     // I: the word that a motor holds from now on.
-    #[tactic(auto, using(crate::proofs::ActLaws::used, crate::proofs::ActLaws::input_there, crate::proofs::ActLaws::refused, crate::proofs::ActLaws::word_set), unfolding(crate::specs::State::refusal_for, rules::specs::Refusals::most_motors))]
+    #[tactic(auto, using(crate::proofs::ActLaws::sets), unfolding(crate::specs::State::refusal_for, rules::specs::Refusals::most_motors))]
     fn set_word(&mut self, number: u32, word: u32) -> Result<(), Refusal>
         ensures refusal { code_of result ≡ refusal_for (view_of self.old) (I number word) }
         ensures state { view_of self.new ≡ state_after (view_of self.old) (I number word) }
@@ -170,7 +170,7 @@ impl Bench {
     }
 
     // S: the table's scan.
-    #[tactic(auto, using(std::proofs::lemmas::Grind::common_steps, rules::proofs::Tables::table_accepted, rules::proofs::Tables::table_refused, rules::proofs::Tables::length_after, crate::proofs::ActLaws::refused, crate::proofs::ActLaws::scan_code, crate::proofs::ActLaws::scanned), unfolding(rules::specs::Refusals::most_motors))]
+    #[tactic(auto, using(crate::proofs::ActLaws::scans), unfolding(rules::specs::Refusals::most_motors))]
     fn scan(&mut self, period: u32) -> Result<(), Refusal>
         ensures refusal { code_of result ≡ refusal_for (view_of self.old) (S period) }
         ensures state { view_of self.new ≡ state_after (view_of self.old) (S period) }

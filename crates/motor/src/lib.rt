@@ -44,17 +44,18 @@ pub fn fresh(s: Settings) -> Motor
     Motor {
         settings: s,
         status,
-        sum: 0,
-        output: Output::default(),
+        ..Default::default()
     }
 }
 
+#[tactic(auto, unfolding(rules::specs::Refusals::settings_in_range))]
 pub fn are_settings_in_range(s: Settings) -> bool
     ensures { result ≡ settings_in_range s }
 {
     (s.ops1 <= OPS1_MAX) & (s.ops2 <= OPS2_MAX) & (s.w <= TIME_MAX) & (s.u <= TIME_MAX)
 }
 
+#[tactic(auto, unfolding(rules::specs::Refusals::status_in_range))]
 pub fn is_status_in_range(v: Status) -> bool
     ensures { result ≡ status_in_range v }
 {
@@ -62,12 +63,14 @@ pub fn is_status_in_range(v: Status) -> bool
     seen & (v.command <= 7) & (v.end <= 3) & (v.flags <= FLAGS_MAX) & (v.previous <= WORD_MAX)
 }
 
+#[tactic(auto, unfolding(rules::specs::Refusals::output_in_range))]
 pub fn is_output_in_range(o: Output) -> bool
     ensures { result ≡ output_in_range o }
 {
     (o.state <= 2) & (o.sum <= SUM_MAX)
 }
 
+#[tactic(auto, unfolding(rules::specs::Refusals::in_range))]
 pub fn is_in_range(m: Motor) -> bool
     ensures { result ≡ in_range m }
 {
@@ -77,12 +80,14 @@ pub fn is_in_range(m: Motor) -> bool
     are_settings_in_range(s) & is_status_in_range(v) & (m.sum <= SUM_MAX) & is_output_in_range(o)
 }
 
+#[tactic(auto, unfolding(rules::specs::Refusals::period_ok))]
 pub fn is_period_ok(period: u32) -> bool
     ensures { result ≡ period_ok period }
 {
     (1 <= period) & (period <= PERIOD_MAX)
 }
 
+#[tactic(auto, unfolding(rules::specs::Refusals::word_ok))]
 pub fn is_word_ok(word: u32) -> bool
     ensures { result ≡ word_ok word }
 {

@@ -1,4 +1,6 @@
 // The output: what drops it, and what raises it.
+#![tactic(auto, unfolding(rules::specs::Opened::opened))]
+
 ghost use Rattle.std.specs.Prelude.{◌≡◌};
 ghost use Rattle.rules.specs.Record.{own_output, opposite_output, dropped};
 ghost use Rattle.rules.specs.Steps.{running, time_up, pulse_over, drops, raises, raised, without_opposite, output9};
@@ -8,7 +10,6 @@ use status::command::{is_local, is_off, is_on};
 use status::end::{is_confirmed, is_overdue};
 use words::{choose, has};
 
-#[tactic(auto, unfolding(rules::specs::Record::dropped))]
 pub fn none() -> Output
     ensures { result ≡ dropped }
 {

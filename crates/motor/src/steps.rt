@@ -1,4 +1,6 @@
 // The ten steps on the record.
+#![tactic(auto, unfolding(rules::specs::Opened::opened))]
+
 ghost use Rattle.std.specs.Prelude.{◌≡◌};
 ghost use Rattle.rules.specs.Scans.{SumsFit, Steppable};
 ghost use Rattle.rules.specs.Record.{with_status};
@@ -6,7 +8,7 @@ ghost use Rattle.rules.specs.Steps.{step3, step4, issue, step9, steps1to5, steps
 ghost use Rattle.rules.specs.Resting.{idle_status};
 
 use crate::output::{is_dropped, is_running, is_time_up, none, output_after};
-use rules::{Motor, Reading, Settings, Status};
+use rules::{Motor, Output, Reading, Settings, Status};
 use status::choice::{acknowledge, to_issue};
 use status::end::{end_command, is_ended};
 use status::faults::form_flags;
@@ -18,9 +20,7 @@ use words::{choose, masked_out};
 pub fn with_status(m: Motor, v: Status) -> Motor
     ensures { result ≡ with_status m v }
 {
-    let mut n = m;
-    n.status = v;
-    n
+    Motor { status: v, ..m }
 }
 
 // Step 3.
@@ -30,28 +30,29 @@ pub fn add_period(m: Motor, period: u32) -> Motor
 {
     let s = m.settings;
     let o = m.output;
-    let mut p = o;
-    p.sum = choose(is_running(s, o), o.sum + period, o.sum);
-    let mut n = m;
-    n.sum = choose(m.status.command == 0, m.sum, m.sum + period);
-    n.output = p;
-    n
+    let output = Output {
+        sum: choose(is_running(s, o), o.sum + period, o.sum),
+        ..o
+    };
+    Motor {
+        sum: choose(m.status.command == 0, m.sum, m.sum + period),
+        output,
+        ..m
+    }
 }
 
 // Step 4.
 pub fn settle(m: Motor, r: Reading) -> Motor
     ensures { result ≡ step4 m r }
 {
-    let s = m.settings;
     let v = m.status;
-    let o = m.output;
     let up = is_time_up(m);
     let ended = is_ended(v, r, up);
     Motor {
-        settings: s,
         status: end_command(v, r, up),
         sum: choose(ended, 0, m.sum),
-        output: choose(is_dropped(m, r), none(), o),
+        output: choose(is_dropped(m, r), none(), m.output),
+        ..m
     }
 }
 
@@ -61,12 +62,11 @@ pub fn issue_command(m: Motor, c: u32) -> Motor
 {
     let s = m.settings;
     let v = m.status;
-    let o = m.output;
     Motor {
-        settings: s,
         status: issue_status(s, v, c),
         sum: 0,
-        output: output_after(s, o, c),
+        output: output_after(s, m.output, c),
+        ..m
     }
 }
 
@@ -78,6 +78,7 @@ pub fn issue_any(m: Motor, c: u32) -> Motor
 }
 
 // Steps 1, 2 and 5.
+#[tactic(auto, unfolding(rules::specs::Resting::idle_status))]
 pub fn idle_status(s: Settings, v: Status, word: u32, r: Reading) -> Status
     ensures { result ≡ idle_status s v word r }
 {

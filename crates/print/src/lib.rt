@@ -4,6 +4,8 @@
 
 mod lines;
 mod scans;
+#[cfg(test)]
+mod tests;
 
 use interpreter::Bench;
 

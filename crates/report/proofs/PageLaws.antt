@@ -3,12 +3,16 @@ use Prim.Native.Nat.{ℕ, ◌+◌, ◌-◌, ◌*◌, ◌/◌, ◌%◌, ◌^◌, 
 use mathlib.Core.Path.{◌≡◌, refl}
 use mathlib.Core.List.{[], ◌∷◌, ◌++◌, append_assoc}
 use native.Mathlib.Omega.{arith}
+use mathlib.Core.Bool.{true}
+use lib.Dec.{ltb}
+use borrow.Author.Tests.{ltb-true, lt-ltb}
+use Rattle.words.proofs.Laws.{and_true}
 use Rattle.std.specs.Int.Bits.{bit_or}
 use Rattle.std.proofs.lemmas.Nat.{le_or_l, le_or_r}
 use Rattle.sheet.specs.Split.{LF}
 use Rattle.report.specs.Print.{decimal, after_comma, after_commas, line_of, letter_r, row_of}
 use Rattle.report.specs.Puts.{Puts}
-use Rattle.report.specs.Store.{Takes, pair_of}
+use Rattle.report.specs.Store.{Takes, pair_of, states_of, short_states}
 use Rattle.report.specs.declared.Row.{Row}
 use Rattle.report.specs.declared.page.Page.{Page}
 use Rattle.report.proofs.PutLaws.{puts_then, put_length}
@@ -45,26 +49,49 @@ pair_then n h g j k =
 
 pub row_parts : (r : Row)
     → row_of r
-    ≡ letter_r ∷ after_comma r.scan ++ (after_comma r.number ++ (after_comma r.mode ++ (after_comma r.position ++ (after_comma r.command
-    ++ (after_comma r.end ++ (after_comma r.output ++ (after_comma r.flags ++ (LF ∷ []))))))))
-unfolding row_of line_of after_commas
-row_parts r = refl
+    ≡ (letter_r ∷ []) ++ (after_comma r.scan ++ (after_comma r.number ++ (states_of r ++ (after_comma r.flags ++ (LF ∷ [])))))
+unfolding row_of line_of after_commas states_of
+row_parts r = simp append_assoc
+
+pub record ShortStates (r : Row) : Type 0 where
+  pub mode : r.mode < 10
+  pub position : r.position < 10
+  pub command : r.command < 10
+  pub end : r.end < 10
+  pub output : r.output < 10
+
+pub short_states_lem : (r : Row) → short_states r ≡ true → ShortStates r
+unfolding short_states
+short_states_lem r h =
+    let four = and_true _ (ltb r.output 10) h in
+    let three = and_true _ (ltb r.end 10) four.0 in
+    let two = and_true _ (ltb r.command 10) three.0 in
+    let one = and_true (ltb r.mode 10) (ltb r.position 10) two.0 in
+    record {
+      mode = ltb-true _ _ one.0;
+      position = ltb-true _ _ one.1;
+      command = ltb-true _ _ two.1;
+      end = ltb-true _ _ three.1;
+      output = ltb-true _ _ four.1;
+    }
 
 -- numbers are below ten if all their bits together are
-pub all_below : (a b c d e : ℕ) → bit_or (bit_or (bit_or (bit_or a b) c) d) e < 10 → (a < 10) × (b < 10) × (c < 10) × (d < 10) × (e < 10)
-all_below a b c d e h =
-    let ab = bit_or a b in
-    let abc = bit_or ab c in
-    let abcd = bit_or abc d in
-    let i = le_or_l abcd e in
-    let j = le_or_l abc d in
-    let k = le_or_l ab c in (
-      omega (arith, i, j, k, le_or_l a b),
-      omega (arith, i, j, k, le_or_r a b),
-      omega (arith, i, j, le_or_r ab c),
-      omega (arith, i, le_or_r abc d),
-      omega (arith, le_or_r abcd e),
-    )
+pub all_short : (r : Row) → bit_or (bit_or (bit_or (bit_or r.mode r.position) r.command) r.end) r.output < 10 → short_states r ≡ true
+unfolding short_states
+all_short r h =
+    let two = bit_or r.mode r.position in
+    let three = bit_or two r.command in
+    let four = bit_or three r.end in
+    let i = le_or_l four r.output in
+    let j = le_or_l three r.end in
+    let k = le_or_l two r.command in
+    rw (
+      lt-ltb r.mode 10 (omega (arith, i, j, k, le_or_l r.mode r.position)),
+      lt-ltb r.position 10 (omega (arith, i, j, k, le_or_r r.mode r.position)),
+      lt-ltb r.command 10 (omega (arith, i, j, le_or_r two r.command)),
+      lt-ltb r.end 10 (omega (arith, i, le_or_r three r.end)),
+      lt-ltb r.output 10 (omega (arith, le_or_r four r.output)),
+    ) refl
 
 -- a number takes room for ten digits at most
 pub number_takes : {p q : Page} (n : ℕ) → Puts p (decimal n) q → Takes p 10 q

@@ -1,6 +1,6 @@
 // A lent buffer and the place up to which it is filled. What is put goes there, as much of it as finds room; specs/Puts.antt says so.
 ghost use Rattle.std.specs.Prelude.{◌≡◌, ◌-◌, [], ◌∷◌, take, length};
-ghost use Rattle.report.specs.Print.{decimal, after_comma, line_of, row_of, totals_row_of, refusal_of};
+ghost use Rattle.report.specs.Print.{decimal, line_of, totals_row_of, refusal_of};
 ghost use Rattle.report.specs.Puts.{Puts};
 
 use crate::{Row, TotalsRow};

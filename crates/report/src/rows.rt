@@ -1,8 +1,8 @@
 // A row stored where there is room for it: most of what is printed are rows, and one test of the place for the whole row is
 // cheaper than one for each byte.
-ghost use Rattle.std.specs.Prelude.{◌+◌, ◌<◌, ◌≤◌, [], ◌∷◌, length};
+ghost use Rattle.std.specs.Prelude.{◌+◌, ◌<◌, ◌≤◌, ◌≡◌, true, [], ◌∷◌, length};
 ghost use Rattle.report.specs.Puts.{Puts};
-ghost use Rattle.report.specs.Store.{Takes, pair_of};
+ghost use Rattle.report.specs.Store.{Takes, pair_of, states_of, short_states};
 ghost use Rattle.report.specs.Print.{decimal, after_comma, row_of};
 
 use crate::{Page, Row};
@@ -13,7 +13,7 @@ const LONGEST: usize = 90;
 
 impl<'a> Page<'a> {
     // R,scan,number,mode,position,command,end,output,flags
-    #[tactic(auto, using(crate::proofs::PageLaws::all_below), unfolding(crate::specs::Print::row_of))]
+    #[tactic(auto, using(crate::proofs::PageLaws::all_short), unfolding(crate::specs::Print::row_of))]
     pub fn row(&mut self, row: Row)
         ensures { Puts self.old (row_of row) self.new }
     {
@@ -37,19 +37,30 @@ impl<'a> Page<'a> {
 
     fn store_row(&mut self, row: Row)
         requires room { self.old.used + 90 ≤ length self.old.bytes.now }
-        requires states { (row.mode < 10) × (row.position < 10) × (row.command < 10) × (row.end < 10) × (row.output < 10) }
+        requires states { short_states row ≡ true }
         ensures { Puts self.old (row_of row) self.new }
     {
         self.store(b'R');
         self.store_field(row.scan);
         self.store_field(row.number);
+        self.store_states(row);
+        self.store_field(row.flags);
+        self.store(LF)
+    }
+
+    // mode,position,command,end,output, each after its comma.
+    #[tactic(auto, using(crate::proofs::PageLaws::short_states_lem))]
+    fn store_states(&mut self, row: Row)
+        requires room { self.old.used + 10 ≤ length self.old.bytes.now }
+        requires states { short_states row ≡ true }
+        ensures puts { Puts self.old (states_of row) self.new }
+        ensures room { Takes self.old 10 self.new }
+    {
         self.store_state(row.mode);
         self.store_state(row.position);
         self.store_state(row.command);
         self.store_state(row.end);
-        self.store_state(row.output);
-        self.store_field(row.flags);
-        self.store(LF)
+        self.store_state(row.output)
     }
 
     // A number of one digit after its comma.

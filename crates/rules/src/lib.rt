@@ -15,7 +15,7 @@ pub struct Settings {
 }
 
 // What the book of commands holds of a motor too: mode, last sure position, position, command under way, end in this
-// scan, flags and previous input word.
+// scan, flags and previous input word. Numbers and no enums: a record that is lent may hold any, and a scan tests their range.
 #[derive(Clone, Copy, Debug, Default, PartialEq, Eq)]
 pub struct Status {
     pub mode: u32,

@@ -4,11 +4,12 @@ use mathlib.Core.Path.{◌≡◌, refl, sym, ap, ◌∙◌}
 use mathlib.Core.Bool.{Bool, true, false, ◌&&◌, and-false, false≢true}
 use mathlib.Core.List.{List, [], ◌∷◌}
 use native.Mathlib.Omega.{arith}
+use native.Mathlib.Decide.{dec_lt}
 use native.Mathlib.Nat.{pow-zero, pow-suc}
 use lib.ListN.{length, take, drop, get_or, length-drop, drop_of_length-le}
 use lib.Seq.{drop-cons, drop-drop}
-use lib.Dec.{eqb, ltb}
-use borrow.Author.Tests.{eq-eqb, ne_eqb, le-leb, lt-leb, ltb-true, ltb-false}
+use lib.Dec.{eqb, leb, ltb}
+use borrow.Author.Tests.{eq-eqb, ne_eqb, le-leb, lt-leb, lt-ltb, le-ltb, ltb-true, ltb-false}
 use Rattle.words.specs.Word.{when◌then◌else◌}
 use Rattle.words.proofs.Laws.{and_true, either}
 use Rattle.sheet.specs.Split.{between}
@@ -16,35 +17,36 @@ use Rattle.sheet.specs.WordField.{is_hex_digit, hex_digit, all_hex_digits, hex_f
 use Rattle.sheet.specs.Places.{hex_digit_at, hex_run, hex_run_at, SaidAt, Read}
 use Rattle.std.specs.Prelude.{Option, Some, None}
 use Rattle.std.specs.Bool.{then_some}
-use Rattle.std.proofs.lemmas.Option.{none-some, some_pair_parts}
+use Rattle.std.proofs.lemmas.Option.{none-some, same_Some, some_pair_parts}
 use Rattle.sheet.proofs.WordFieldLaws.{digit_small, hex_fits, hex_field}
 
 -- ---- the digit at a place
 
-pub record HexHere (s : List ℕ) (i : ℕ) : Type 0 where
+pub record HexHere (s : List ℕ) (i d : ℕ) : Type 0 where
   pub inside : i < length s
-  pub is : is_hex_digit (get_or s i 0) ≡ true
-  pub value : hex_digit_at s i ≡ hex_digit (get_or s i 0)
+  pub small : d < 16
   pub run : hex_run (drop i s) ≡ get_or s i 0 ∷ hex_run (drop (suc i) s)
+  pub value : hex_digit (get_or s i 0) ≡ d
 
 module _ (s : List ℕ) (i : ℕ) where
-  pub hex_here : hex_digit_at s i < 16 → HexHere s i
+  pub hex_here : (d : ℕ) → Some d ≡ hex_digit_at s i → HexHere s i d
   unfolding hex_digit_at hex_run when◌then◌else◌
-  hex_here h = go (ltb i (length s)) refl (is_hex_digit (get_or s i 0)) refl h
+  hex_here d h = go (ltb i (length s)) refl (is_hex_digit (get_or s i 0)) refl h
     where
-      go : (x : Bool) → ltb i (length s) ≡ x → (y : Bool) → is_hex_digit (get_or s i 0) ≡ y → (when x && y then hex_digit (get_or s i 0) else 16) < 16 → HexHere s i
+      go : (x : Bool) → ltb i (length s) ≡ x → (y : Bool) → is_hex_digit (get_or s i 0) ≡ y → Some d ≡ then_some (x && y) (hex_digit (get_or s i 0)) → HexHere s i d
       go true e true f h =
           let l = ltb-true i (length s) e in
-          record { inside = l; is = f; value = rw (e, f); run = rw (drop-cons s i 0 l, f) }
-      go true e false f h = absurd (omega arith)
-      go false e y f h = absurd (omega arith)
+          let v = sym (same_Some _ _ h) in
+          record { inside = l; small = omega (arith, digit_small (get_or s i 0) f); run = rw (drop-cons s i 0 l, f); value = v }
+      go true e false f h = absurd (none-some _ (sym h))
+      go false e y f h = absurd (none-some _ (sym h))
 
-  pub run_end : 16 ≤ hex_digit_at s i → hex_run (drop i s) ≡ []
+  pub run_end : None ≡ hex_digit_at s i → hex_run (drop i s) ≡ []
   unfolding hex_digit_at hex_run when◌then◌else◌
   run_end h = go (ltb i (length s)) refl (is_hex_digit (get_or s i 0)) refl h
     where
-      go : (x : Bool) → ltb i (length s) ≡ x → (y : Bool) → is_hex_digit (get_or s i 0) ≡ y → 16 ≤ (when x && y then hex_digit (get_or s i 0) else 16) → hex_run (drop i s) ≡ []
-      go true e true f h = absurd (omega (arith, digit_small (get_or s i 0) f))
+      go : (x : Bool) → ltb i (length s) ≡ x → (y : Bool) → is_hex_digit (get_or s i 0) ≡ y → None ≡ then_some (x && y) (hex_digit (get_or s i 0)) → hex_run (drop i s) ≡ []
+      go true e true f h = absurd (none-some _ h)
       go true e false f h = rw (drop-cons s i 0 (ltb-true i (length s) e), f)
       go false e y f h = rw (drop_of_length-le s (ltb-false i (length s) e))
 
@@ -63,43 +65,49 @@ run_none s at =
     record { from = omega arith; few = omega arith; small = rw z (omega (arith, pow-zero 16)); says = refl; count = omega arith }
 
 module _ {s : List ℕ} {at value i : ℕ} (r : Run s at value i) where
-  pub run_fits : value < 4294967296
-  run_fits = omega (arith, r.small, hex_fits (i - at) r.few)
+  module _ {d : ℕ} (h : Some d ≡ hex_digit_at s i) where
+    -- one digit more fits a word
+    pub run_fits : (i - at ≡ 8 → ⊥) → value * 16 + d < 4294967296
+    run_fits n =
+        let m : suc (i - at) ≤ 8 = omega (arith, r.few) in
+        omega (arith, r.small, pow-suc 16 (i - at), hex_fits (suc (i - at)) m, (hex_here s i d h).small)
 
-  pub run_more : hex_digit_at s i < 16 → suc i - at ≤ 8 → Run s at (value * 16 + hex_digit_at s i) (suc i)
-  unfolding hex_from
-  run_more h l =
-      let d = hex_here s i h in
-      let k : suc i - at ≡ suc (i - at) = omega (arith, r.from) in
-      record {
-        from = omega (arith, r.from);
-        few = l;
-        small = rw k (omega (arith, r.small, pow-suc 16 (i - at)));
-        says = r.says ∙ rw (d.run, d.value);
-        count = omega (arith, r.count, ap length d.run, r.from);
-      }
+    pub run_more : (i - at ≡ 8 → ⊥) → Run s at (value * 16 + d) (suc i)
+    unfolding hex_from
+    run_more n =
+        let w = hex_here s i d h in
+        let k : suc i - at ≡ suc (i - at) = omega (arith, r.from) in
+        record {
+          from = omega (arith, r.from);
+          few = omega (arith, r.few);
+          small = rw k (omega (arith, r.small, w.small, pow-suc 16 (i - at)));
+          says = r.says ∙ rw (w.run, ← w.value);
+          count = omega (arith, r.count, ap length w.run, r.from);
+        }
 
-  pub run_nine : hex_digit_at s i < 16 → 8 < suc i - at → hex_run_at s at ≡ None
-  unfolding hex_run_at is_hex_count when◌then◌else◌
-  run_nine h l =
-      let n = length (hex_run (drop at s)) in
-      let m : 8 < n = omega (arith, r.count, ap length (hex_here s i h).run, r.from) in
-      rw (le-leb 1 n (omega arith), lt-leb n 8 m)
+    pub run_nine : i - at ≡ 8 → hex_run_at s at ≡ None
+    unfolding hex_run_at is_hex_count
+    run_nine e =
+        let n = length (hex_run (drop at s)) in
+        let m : 8 < n = omega (arith, r.count, ap length (hex_here s i d h).run) in
+        rw (le-leb 1 n (omega arith), lt-leb n 8 m)
 
-  pub run_without : 16 ≤ hex_digit_at s i → i ≡ at → hex_run_at s at ≡ None
-  unfolding hex_run_at is_hex_count when◌then◌else◌
-  run_without h e =
-      let n = length (hex_run (drop at s)) in
-      rw (lt-leb 1 n (omega (arith, r.count, ap length (run_end s i h))))
+  pub run_said : None ≡ hex_digit_at s i → hex_run_at s at ≡ then_some (ltb at i) (value, i)
+  unfolding hex_run_at is_hex_count hex_from
+  run_said h = go (dec_lt at i)
+    where
+      n : ℕ
+      n = length (hex_run (drop at s))
 
-  pub run_said : 16 ≤ hex_digit_at s i → (i ≡ at → ⊥) → hex_run_at s at ≡ Some (value, i)
-  unfolding hex_run_at is_hex_count hex_from when◌then◌else◌
-  run_said h e =
-      let n = length (hex_run (drop at s)) in
-      let m : n ≡ i - at = omega (arith, r.count, ap length (run_end s i h)) in
-      let v : hex_from 0 (hex_run (drop at s)) ≡ value = r.says ∙ rw (run_end s i h) in
-      let p : at + n ≡ i = omega (arith, r.from) in
-      rw (le-leb 1 n (omega (arith, r.from, e)), le-leb n 8 (omega (arith, r.few)), v, p)
+      go : Dec (at < i) → then_some {T = ℕ × ℕ} (leb 1 n && leb n 8) (hex_from 0 (hex_run (drop at s)), at + n) ≡ then_some (ltb at i) (value, i)
+      go (yes l) =
+          let v : hex_from 0 (hex_run (drop at s)) ≡ value = r.says ∙ rw (run_end s i h) in
+          let m : n ≡ i - at = omega (arith, r.count, ap length (run_end s i h)) in
+          let p : at + n ≡ i = omega (arith, r.from) in
+          rw (le-leb 1 n (omega arith), le-leb n 8 (omega (arith, r.few)), v, p, lt-ltb at i l)
+      go (no l) =
+          let m : n ≡ 0 = omega (arith, r.count, r.from, ap length (run_end s i h)) in
+          rw (lt-leb 1 n (omega arith), le-ltb at i (omega arith))
 
 -- ---- all digits of a field
 

@@ -13,36 +13,9 @@ use Rattle.words.specs.Word.{when◌then◌else◌}
 use Rattle.words.proofs.Laws.{and_true, both_le}
 use Rattle.sheet.specs.Split.{index_of}
 use Rattle.sheet.specs.Number.{largest, is_digit, all_digits, value_from, digits_number, leading_zero, number_of}
-use Rattle.std.specs.Prelude.{Some, None}
+use Rattle.std.specs.Prelude.{Option, Some, None}
 use Rattle.std.specs.Bool.{then_some}
-
--- one byte read
-module _ (s : List ℕ) (i : ℕ) (h : i < length s) where
-  pub digits_low : get_or s i 0 < 48 → all_digits (drop i s) ≡ false
-  unfolding all_digits is_digit
-  digits_low l = rw (drop-cons s i 0 h, lt-leb 48 (get_or s i 0) l)
-
-  pub digits_high : 57 < get_or s i 0 → all_digits (drop i s) ≡ false
-  unfolding all_digits is_digit
-  digits_high l = rw (drop-cons s i 0 h, le-leb 48 (get_or s i 0) (omega arith), lt-leb (get_or s i 0) 57 l)
-
-  pub digits_step : 48 ≤ get_or s i 0 → get_or s i 0 ≤ 57 → all_digits (drop i s) ≡ all_digits (drop (suc i) s)
-  unfolding all_digits is_digit
-  digits_step l u = rw (drop-cons s i 0 h, le-leb 48 (get_or s i 0) l, le-leb (get_or s i 0) 57 u)
-
-  pub value_step : (v : ℕ) → value_from v (drop i s) ≡ value_from (v * 10 + (get_or s i 0 - 48)) (drop (suc i) s)
-  unfolding value_from
-  value_step v = rw (drop-cons s i 0 h)
-
--- all bytes read
-module _ (s : List ℕ) (i : ℕ) (h : length s ≤ i) where
-  pub digits_past : all_digits (drop i s) ≡ true
-  unfolding all_digits
-  digits_past = rw (drop_of_length-le s h)
-
-  pub value_past : (v : ℕ) → value_from v (drop i s) ≡ v
-  unfolding value_from
-  value_past v = rw (drop_of_length-le s h)
+use Rattle.std.proofs.lemmas.Option.{none-some, same_Some}
 
 -- a value never falls
 pub value_grows : (v : ℕ) (s : List ℕ) → v ≤ value_from v s
@@ -50,11 +23,54 @@ unfolding value_from
 value_grows v [] = omega arith
 value_grows v (b ∷ s) = omega (arith, value_grows (v * 10 + (b - 48)) s)
 
+-- the number that digits say, read on from the value v of those before them
+unfoldable pub number_from : ℕ → List ℕ → Option ℕ
+number_from v s = then_some (all_digits s && leb (value_from v s) largest) (value_from v s)
+
+pub number_none : (s : List ℕ) → digits_number s ≡ number_from 0 s
+unfolding digits_number number_from
+number_none s = refl
+
+module _ (s : List ℕ) (i v : ℕ) where
+  pub number_past : length s ≤ i → v ≤ largest → number_from v (drop i s) ≡ Some v
+  unfolding number_from all_digits value_from
+  number_past h l = rw (drop_of_length-le s h, le-leb v largest l)
+
+  pub number_large : i < length s → largest < v * 10 + (get_or s i 0 - 48) → number_from v (drop i s) ≡ None
+  unfolding number_from all_digits value_from
+  number_large h l =
+      let b = get_or s i 0 in
+      let g = value_grows (v * 10 + (b - 48)) (drop (suc i) s) in
+      rw (drop-cons s i 0 h, lt-leb (value_from (v * 10 + (b - 48)) (drop (suc i) s)) largest (omega arith), and-false (is_digit b && all_digits (drop (suc i) s)))
+
+  pub number_wrong : i < length s → is_digit (get_or s i 0) ≡ false → number_from v (drop i s) ≡ None
+  unfolding number_from all_digits
+  number_wrong h e = rw (drop-cons s i 0 h, e)
+
+  pub number_step : i < length s → is_digit (get_or s i 0) ≡ true → number_from v (drop i s) ≡ number_from (v * 10 + (get_or s i 0 - 48)) (drop (suc i) s)
+  unfolding number_from all_digits value_from
+  number_step h e = rw (drop-cons s i 0 h, e)
+
 -- ---- digits
 
 pub digit_range : (b : ℕ) → is_digit b ≡ true → (48 ≤ b) × (b ≤ 57)
 unfolding is_digit
 digit_range b e = both_le e
+
+-- by the function that tells a digit's value
+pub digit_is : (b d : ℕ) → Some d ≡ then_some (is_digit b) (b - 48) → (is_digit b ≡ true) × (d ≡ b - 48)
+digit_is b d e = go (is_digit b) e
+  where
+    go : (t : Bool) → Some d ≡ then_some t (b - 48) → (t ≡ true) × (d ≡ b - 48)
+    go true e = (refl, same_Some _ _ e)
+    go false e = absurd (none-some _ (sym e))
+
+pub digit_not : (b : ℕ) → None ≡ then_some (is_digit b) (b - 48) → is_digit b ≡ false
+digit_not b e = go (is_digit b) e
+  where
+    go : (t : Bool) → None ≡ then_some t (b - 48) → t ≡ false
+    go true e = absurd (none-some _ e)
+    go false e = refl
 
 -- one digit more at the end
 pub all_snoc : (s : List ℕ) (b : ℕ) → all_digits (s ++ b ∷ []) ≡ (all_digits s && is_digit b)
@@ -84,14 +100,6 @@ digits_free b (x ∷ s) f e = let w = and_true (is_digit x) (all_digits s) e in 
 
 -- ---- what a field of digits says
 
-pub no_digits : (s : List ℕ) → all_digits s ≡ false → digits_number s ≡ None
-unfolding digits_number when◌then◌else◌
-no_digits s e = rw e
-
-pub too_large : (s : List ℕ) → largest < value_from 0 s → digits_number s ≡ None
-unfolding digits_number when◌then◌else◌
-too_large s h = rw (lt-leb (value_from 0 s) largest h, and-false (all_digits s))
-
 pub in_range_lem : (s : List ℕ) (v : ℕ) → all_digits s ≡ true → value_from 0 s ≡ v → v ≤ largest → digits_number s ≡ Some v
 unfolding digits_number when◌then◌else◌
 in_range_lem s v d e h = rw (d, e, le-leb v largest h)
@@ -102,14 +110,17 @@ pub empty_number : (s : List ℕ) → length s ≡ 0 → number_of s ≡ None
 unfolding number_of when◌then◌else◌
 empty_number s e = rw (eq-eqb (length s) 0 e)
 
-module _ (s : List ℕ) (some : length s ≡ 0 → ⊥) where
-  pub zero_number : leading_zero s ≡ true → number_of s ≡ None
-  unfolding number_of when◌then◌else◌
-  zero_number e = rw (ne_eqb (length s) 0 some, e)
+pub zero_number : (s : List ℕ) → 1 < length s → get_or s 0 0 ≡ 48 → number_of s ≡ None
+unfolding number_of leading_zero when◌then◌else◌
+zero_number s h e = rw (ne_eqb (length s) 0 (λ z. omega arith), eq-eqb (get_or s 0 0) 48 e, lt-ltb 1 (length s) h)
 
-  pub plain_number : leading_zero s ≡ false → number_of s ≡ digits_number s
-  unfolding number_of when◌then◌else◌
-  plain_number e = rw (ne_eqb (length s) 0 some, e)
+pub plain_number : (s : List ℕ) → 0 < length s → (1 < length s → get_or s 0 0 ≡ 48 → ⊥) → number_of s ≡ digits_number s
+unfolding number_of leading_zero when◌then◌else◌
+plain_number s h n = rw (ne_eqb (length s) 0 (λ z. omega arith)) (go (dec_lt 1 (length s)))
+  where
+    go : Dec (1 < length s) → (when eqb (get_or s 0 0) 48 && ltb 1 (length s) then None else digits_number s) ≡ digits_number s
+    go (yes l) = rw (ne_eqb (get_or s 0 0) 48 (n l))
+    go (no l) = rw (le-ltb 1 (length s) (omega arith), and-false (eqb (get_or s 0 0) 48))
 
 -- ---- a field says a number if it spells it: digits, at least one, and no 0 in front of others
 
@@ -120,14 +131,7 @@ pub record Spells (n : ℕ) (field : List ℕ) : Type 0 where
   pub plain : 1 < length field → 48 < get_or field 0 0
 
 pub spells_number : {n : ℕ} {s : List ℕ} → Spells n s → n ≤ largest → number_of s ≡ Some n
-unfolding leading_zero
-spells_number {n} {s} p h =
-    let q = p.some in
-    plain_number s (λ e. omega arith) (go (dec_lt 1 (length s))) ∙ in_range_lem s n p.digits p.value h
-  where
-    go : Dec (1 < length s) → (eqb (get_or s 0 0) 48 && ltb 1 (length s)) ≡ false
-    go (yes l) = let q = p.plain l in rw (ne_eqb (get_or s 0 0) 48 (λ e. omega arith))
-    go (no l) = rw (le-ltb 1 (length s) (omega arith)) (and-false (eqb (get_or s 0 0) 48))
+spells_number {n} {s} p h = plain_number s p.some (λ l e. omega (arith, p.plain l)) ∙ in_range_lem s n p.digits p.value h
 
 -- the tests that led to a number
 tests : (e z d l : Bool) (v n : ℕ) → (when e || z then None else then_some (d && l) v) ≡ Some n

@@ -1,7 +1,7 @@
 -- Laws of bytes and numbers where they stand in a file: a line that is read there gives the request that the grammar says. Assumes nothing.
 use Prim.Native.Nat.{ℕ, suc, ◌+◌, ◌-◌, ◌*◌, ◌<◌, ◌≤◌}
 use mathlib.Core.Path.{◌≡◌, refl, sym, ◌∙◌}
-use mathlib.Core.Bool.{true, false, false≢true}
+use mathlib.Core.Bool.{Bool, true, false, false≢true}
 use mathlib.Core.List.{List, [], ◌∷◌, ◌++◌, append_assoc}
 use native.Mathlib.Nat.{add-zero}
 use native.Mathlib.Omega.{arith}
@@ -18,6 +18,8 @@ use Rattle.sheet.specs.WordField.{word_of}
 use Rattle.sheet.specs.Grammar.{letter_m, letter_i, letter_s, letter_of, is_kind, number_in, word_in, with_value, motor_from, input_from, scan_from, motor_of, input_of, scan_of, request_of, taken_at, next_at}
 use Rattle.sheet.specs.Places.{is_at, is_digit_at, begins_with, ends_line, SaidAt, Read}
 use Rattle.std.specs.Prelude.{Option, Some, None}
+use Rattle.std.specs.Bool.{then_some}
+use Rattle.std.proofs.lemmas.Option.{none-some, same_Some}
 use Rattle.sheet.specs.declared.Line.TheVariants.{Until}
 use Rattle.sheet.specs.declared.Request.TheVariants.{Motor, Input, Scan}
 use Rattle.sheet.proofs.SplitLaws.{Free, free_none, free_more, split_joined, free_joined}
@@ -40,25 +42,21 @@ other_at file at b e h f = false≢true (sym e ∙ rw (lt-ltb at (length file) h
 drop_byte : (file : List ℕ) (at b : ℕ) → is_at file at b ≡ true → drop at file ≡ b ∷ drop (suc at) file
 drop_byte file at b e = let w = byte_at file at b e in drop-cons file at 0 w.0 ∙ rw w.1
 
-pub record DigitAt (file : List ℕ) (at : ℕ) : Type 0 where
+pub record DigitAt (file : List ℕ) (at d : ℕ) : Type 0 where
   pub inside : at < length file
   pub is : is_digit (get_or file at 0) ≡ true
-  pub low : 48 ≤ get_or file at 0
-  pub high : get_or file at 0 ≤ 57
+  pub value : d ≡ get_or file at 0 - 48
+  pub small : d ≤ 9
 
-pub digit_at : (file : List ℕ) (at : ℕ) → is_digit_at file at ≡ true → DigitAt file at
+pub digit_at : (file : List ℕ) (at d : ℕ) → Some d ≡ then_some (is_digit_at file at) (get_or file at 0 - 48) → DigitAt file at d
 unfolding is_digit_at
-digit_at file at e =
-    let w = and_true (ltb at (length file)) (is_digit (get_or file at 0)) e in
-    let r = digit_range (get_or file at 0) w.1 in
-    record { inside = ltb-true at (length file) w.0; is = w.1; low = r.0; high = r.1 }
-
--- ---- digits
-
-some_digit : (s : List ℕ) → (value_from 0 s ≡ 0 → ⊥) → 0 < length s
-unfolding value_from
-some_digit [] n = absurd (n refl)
-some_digit (x ∷ s) n = omega arith
+digit_at file at d e = go (is_digit_at file at) refl e
+  where
+    go : (t : Bool) → is_digit_at file at ≡ t → Some d ≡ then_some t (get_or file at 0 - 48) → DigitAt file at d
+    go true f e =
+        let w = and_true (ltb at (length file)) (is_digit (get_or file at 0)) f in
+        record { inside = ltb-true at (length file) w.0; is = w.1; value = same_Some _ _ e; small = omega (arith, same_Some _ _ e, (digit_range (get_or file at 0) w.1).1) }
+    go false f e = absurd (none-some _ (sym e))
 
 -- ---- the bytes between two places
 
@@ -96,16 +94,14 @@ module _ (file : List ℕ) (at : ℕ) where
   unfolding all_digits value_from
   no_digit_yet = let z = between_none file at in record { from = omega arith; within = omega arith; digits = rw z; says = rw z }
 
-  pub digit_more : {value i : ℕ} → Digits file at value i → is_digit_at file i ≡ true
-      → Digits file at (value * 10 + (get_or file i 0 - 48)) (suc i)
-  digit_more {value} {i} d e =
-      let w = digit_at file i e in
-      let p = between_more file at i d.from w.inside in
+  pub digit_more : {value i d : ℕ} → Digits file at value i → DigitAt file i d → Digits file at (value * 10 + d) (suc i)
+  digit_more {value} {i} {d} p w =
+      let m = between_more file at i p.from w.inside in
       record {
-        from = omega (arith, d.from);
-        within = omega (arith, d.from, w.inside);
-        digits = rw (p, all_snoc (between at i file) (get_or file i 0), d.digits, w.is);
-        says = rw (p, value_more 0 (between at i file) (get_or file i 0), d.says);
+        from = omega (arith, p.from);
+        within = omega (arith, p.from, w.inside);
+        digits = rw (m, all_snoc (between at i file) (get_or file i 0), p.digits, w.is);
+        says = rw (m, value_more 0 (between at i file) (get_or file i 0), p.says, w.value);
       }
 
   -- a 0 alone
@@ -116,18 +112,25 @@ module _ (file : List ℕ) (at : ℕ) where
       record { within = omega (arith, (byte_at file at 48 e).0); says = rw (n, drop_byte file at 48 e) }
 
   -- digits of which the first is no 0
-  pub digits_number_lem : {value i : ℕ} → Digits file at value i → is_at file at 48 ≡ false → (value ≡ 0 → ⊥) → value ≤ largest
-      → SaidAt number_of file at value i
-  digits_number_lem {value} {i} d z n h =
-      let s = some_digit (between at i file) (λ e. n (sym d.says ∙ e)) in
+  pub digits_said : {value i : ℕ} → Digits file at value i → is_at file at 48 ≡ false → at < i → value ≤ largest → SaidAt number_of file at value i
+  digits_said {value} {i} d z m h =
       let l = between_length file at i d.within in
-      let b = between_head file at i (omega arith) in
-      let m = first_digit (between at i file) d.digits s in
+      let b = between_head file at i m in
+      let f = first_digit (between at i file) d.digits (omega arith) in
       let o : get_or file at 0 ≡ 48 → ⊥ = other_at file at 48 z (omega (arith, d.within)) in
       record {
         within = omega (arith, d.within);
-        says = spells_number (record { some = s; digits = d.digits; value = d.says; plain = λ k. omega (arith, o) }) h;
+        says = spells_number (record { some = omega arith; digits = d.digits; value = d.says; plain = λ k. omega (arith, o) }) h;
       }
+
+  -- no digit but one that is read alone says nothing
+  pub digits_read : {value i : ℕ} → Digits file at value i → is_at file at 48 ≡ false → value ≤ largest → Read number_of file at (then_some (ltb at i) (value, i))
+  unfolding Read
+  digits_read {value} {i} d z h = go (ltb at i) refl
+    where
+      go : (t : Bool) → ltb at i ≡ t → Read number_of file at (then_some t (value, i))
+      go true e = digits_said d z (ltb-true at i e) h
+      go false e = tt
 
 -- a number at a place is a word there
 pub number_said : {file : List ℕ} {at value end : ℕ} → SaidAt number_of file at value end → SaidAt word_of file at value end

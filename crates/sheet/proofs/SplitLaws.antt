@@ -1,18 +1,23 @@
 -- Laws of `split` and `index_of`: what the first b of a list parts. Assumes nothing.
-use Prim.Native.Nat.{ℕ, zero, suc, ◌+◌, ◌-◌, ◌<◌, ◌≤◌, min}
+use Prim.Native.Nat.{ℕ, zero, suc, ◌+◌, ◌-◌, ◌<◌, ◌≤◌, min, max}
 use mathlib.Core.Path.{◌≡◌, refl, sym, ap, ◌∙◌}
 use mathlib.Core.Bool.{Bool, true, false}
 use mathlib.Core.List.{List, [], ◌∷◌, ◌++◌}
 use native.Mathlib.Omega.{arith}
 use native.Mathlib.Decide.{dec_le, dec_lt}
-use native.Mathlib.Nat.{sub-zero}
 use lib.ListN.{length, take, drop, get_or, length-append, length-drop, drop_of_length-le}
 use lib.Seq.{drop-cons, take_all, take-nil, take-suc}
 use lib.Dec.{eqb}
 use borrow.Author.Tests.{eq-eqb, ne_eqb, eqb-true, eqb-false}
+use Rattle.std.specs.Prelude.{Option, Some, None, count_by, cond, unwrap_or}
+use Rattle.std.specs.List.{slice_get, slice_split, onto_first}
+use Rattle.std.specs.Option.{option_copied}
+use Rattle.std.proofs.Common.{Bor}
+use Rattle.std.proofs.lemmas.Option.{unwrap_or-slice_get}
+use Rattle.std.proofs.lemmas.List.Splits.{length-slice_split}
 use Rattle.words.specs.Word.{when◌then◌else◌}
 use Rattle.words.proofs.Laws.{either}
-use Rattle.sheet.specs.Split.{comma, split, join_first, joined, index_of, between, field_of}
+use Rattle.sheet.specs.Split.{comma, split, join_first, joined, index_of, between, field_of, field_count}
 
 -- ---- the first b
 
@@ -28,6 +33,15 @@ module _ (b : ℕ) (s : List ℕ) (i : ℕ) (h : i < length s) where
 pub index_past : (b : ℕ) (s : List ℕ) (i : ℕ) → length s ≤ i → index_of b (drop i s) ≡ 0
 unfolding index_of
 index_past b s i h = rw (drop_of_length-le s h)
+
+-- the end, or the place itself past it, if the places passed have no b
+pub index_none : (b : ℕ) (s : List ℕ) (at i : ℕ) → at + index_of b (drop at s) ≡ i + index_of b (drop i s) → length s ≤ i → (at ≤ length s → i ≤ length s)
+    → max at (length s) ≡ at + index_of b (drop at s)
+index_none b s at i e h f = go (dec_le at (length s))
+  where
+    go : Dec (at ≤ length s) → max at (length s) ≡ at + index_of b (drop at s)
+    go (yes l) = omega (arith, index_past b s i h, f l)
+    go (no l) = omega (arith, index_past b s at (omega arith))
 
 pub index_le : (b : ℕ) (s : List ℕ) → index_of b s ≤ length s
 unfolding index_of
@@ -153,25 +167,35 @@ free_joined {b} {c} n (free_more {p = p} h (free_more {p = q} {ps = qs} g f)) =
     rw (index_append b p (c ∷ joined c (q ∷ qs)) h, ne_eqb c b n)
     (omega (arith, length-append p (c ∷ joined c (q ∷ qs)), free_joined n (free_more {p = q} g f)))
 
--- one byte passed: a part more if it is b
-module _ (b : ℕ) (s : List ℕ) (i : ℕ) (h : i < length s) where
-  pub parts_hit : get_or s i 0 ≡ b → length (split b (drop i s)) ≡ suc (length (split b (drop (suc i) s)))
-  unfolding split when◌then◌else◌
-  parts_hit e = rw (drop-cons s i 0 h, eq-eqb (get_or s i 0) b e)
-
-  pub parts_miss : (get_or s i 0 ≡ b → ⊥) → length (split b (drop i s)) ≡ length (split b (drop (suc i) s))
-  unfolding split when◌then◌else◌ join_first
-  parts_miss e = rw (drop-cons s i 0 h, ne_eqb (get_or s i 0) b e) (joined (get_or s i 0) (split b (drop (suc i) s)) (parts_pos b (drop (suc i) s)))
-    where
-      joined : (x : ℕ) (ps : List (List ℕ)) → 0 < length ps → length (join_first x ps) ≡ length ps
-      joined x [] l = absurd (omega arith)
-      joined x (p ∷ ps) l = refl
-
-pub parts_past : (b : ℕ) (s : List ℕ) (i : ℕ) → length s ≤ i → length (split b (drop i s)) ≡ 1
-unfolding split
-parts_past b s i h = rw (drop_of_length-le s h)
-
 -- ---- the fields of a line
+
+-- by std's words
+split_is : (b : ℕ) (s : List ℕ) → split b s ≡ slice_split (λ x. eqb x b) s
+unfolding split join_first when◌then◌else◌
+split_is b [] = refl
+split_is b (x ∷ s) = rw (split_is b s) (go (eqb x b) (slice_split (λ y. eqb y b) s))
+  where
+    first : (ps : List (List ℕ)) → join_first x ps ≡ onto_first x ps
+    first [] = refl
+    first (p ∷ ps) = refl
+
+    go : (t : Bool) (ps : List (List ℕ)) → (when t then [] ∷ ps else join_first x ps) ≡ cond t ([] ∷ ps) (onto_first x ps)
+    go true ps = refl
+    go false ps = first ps
+
+pub fields_counted : (s : List ℕ) → field_count s ≡ count_by (λ b. eqb b comma) s + 1
+unfolding field_count
+fields_counted s = rw (split_is comma s) (length-slice_split (λ b. eqb b comma) s)
+
+pub field_by : (s : List ℕ) (k : ℕ) → unwrap_or (slice_get (slice_split (λ b. eqb b comma) s) k) [] ≡ field_of s k
+unfolding field_of
+field_by s k = unwrap_or-slice_get (slice_split (λ b. eqb b comma) s) k [] ∙ sym (ap (λ (ps : List (List ℕ)). get_or ps k []) (split_is comma s))
+
+-- a lent part, or else an empty one
+pub lent_or : (r : Option (Bor (List ℕ))) (x d : Bor (List ℕ)) (o : Option (List ℕ)) → x ≡ unwrap_or r d → d.now ≡ [] → option_copied r ≡ o
+    → x.now ≡ unwrap_or o []
+lent_or None x d o e n p = rw (e, ← p) n
+lent_or (Some y) x d o e n p = rw (e, ← p) refl
 
 pub first_field : (s : List ℕ) → take (index_of comma s) s ≡ field_of s 0
 unfolding field_of
@@ -181,32 +205,9 @@ first_field s = go (dec_lt (index_of comma s) (length s))
     go (yes h) = rw (split_hit comma s h)
     go (no h) = rw (split_none comma s (omega arith), take_all (index_of comma s) s (omega arith))
 
--- an empty line has empty fields alone
-pub no_field : (k : ℕ) → field_of [] k ≡ []
-unfolding field_of split
-no_field zero = refl
-no_field (suc k) = refl
-
-pub empty_field : (s : List ℕ) (k : ℕ) → length s ≡ 0 → s ≡ field_of s k
-empty_field [] k h = sym (no_field k)
-empty_field (x ∷ s) k h = absurd (omega arith)
-
--- what follows the first comma has the fields after the first
-pub field_after : (s : List ℕ) (k : ℕ) → field_of (drop (suc (index_of comma s)) s) k ≡ field_of s (suc k)
-unfolding field_of
-field_after s k = go (dec_lt (index_of comma s) (length s))
-  where
-    go : Dec (index_of comma s < length s) → field_of (drop (suc (index_of comma s)) s) k ≡ field_of s (suc k)
-    go (yes h) = rw (split_hit comma s h)
-    go (no h) = rw (split_none comma s (omega arith), drop_of_length-le s {i = suc (index_of comma s)} (omega arith)) (no_field k)
-
 -- ---- a part between two places
 
--- from the start, and to the end
-pub between_first : (n : ℕ) (s : List ℕ) → between 0 n s ≡ take n s
-unfolding between
-between_first n s = rw (sub-zero n)
-
+-- to the end
 pub between_last : (n : ℕ) (s : List ℕ) → between n (length s) s ≡ drop n s
 unfolding between
 between_last n s = take_all (length s - n) (drop n s) (omega (arith, length-drop n s))

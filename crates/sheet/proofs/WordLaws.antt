@@ -5,11 +5,16 @@ use mathlib.Core.Bool.{Bool, true, false, not, ◌||◌, false≢true}
 use mathlib.Core.List.{List, [], ◌∷◌}
 use native.Mathlib.Nat.{add-zero, add-suc, div-add-mod'}
 use native.Mathlib.Omega.{arith}
+use native.Mathlib.Decide.{dec_lt}
 use lib.Bits.{bit_and, bit_or, bit_xor, and_block, or_block, xor_block, and_lt, or_lt, xor_lt, mask_lt}
 use lib.Dec.{eqb, lit<}
 use lib.ListN.{length, take, drop, get_or, length-drop, take-append-drop}
 use lib.Seq.{length-take-le, drop-cons, drop-drop}
 use borrow.Author.Tests.{eq-eqb, ne_eqb, eqb-true, eqb-false}
+use Rattle.std.specs.Int.{to_le_bytes, from_le_bytes}
+use Rattle.std.proofs.lemmas.Nat.{le_bytes_8}
+use Rattle.std.proofs.lemmas.List.{get_or_past, get_or-take, get_or-drop}
+use Rattle.std.proofs.Common.{w64}
 use Rattle.words.specs.Word.{when◌then◌else◌}
 use Rattle.words.proofs.Laws.{agree_at}
 use Rattle.sheet.specs.Split.{LF, index_of, between}
@@ -87,9 +92,17 @@ lf_test (suc n) w f =
 
 -- ---- words built from bytes
 
-pub bytes_more : (n w b : ℕ) → b < 256 → bytes_of (suc n) (w * 256 + b) ≡ b ∷ bytes_of n w
+-- by std's words
+pub bytes_are : (w : ℕ) → bytes_of 8 w ≡ to_le_bytes w64 w
 unfolding bytes_of
-bytes_more n w b h = let m : (w * 256 + b) % 256 ≡ b = omega arith in let d : (w * 256 + b) / 256 ≡ w = omega arith in rw (m, d) refl
+bytes_are w =
+    let d2 : w / 256 / 256 ≡ w / 65536 = omega arith in
+    let d3 : w / 65536 / 256 ≡ w / 16777216 = omega arith in
+    let d4 : w / 16777216 / 256 ≡ w / 4294967296 = omega arith in
+    let d5 : w / 4294967296 / 256 ≡ w / 1099511627776 = omega arith in
+    let d6 : w / 1099511627776 / 256 ≡ w / 281474976710656 = omega arith in
+    let d7 : w / 281474976710656 / 256 ≡ w / 72057594037927936 = omega arith in
+    rw (d2, d3, d4, d5, d6, d7) refl
 
 pub word_fits : (w : ℕ) → w < 2 ^ 64 → fits 8 w
 unfolding fits
@@ -119,6 +132,22 @@ module _ (s : List ℕ) (i : ℕ) where
         take_more 0 7 (omega arith),
       )
       refl
+
+  -- and the word that they make
+  pub word_is : (w : ℕ) → i + 8 ≤ length s → ((k : ℕ) → get_or s k 0 < 256)
+      → w ≡ from_le_bytes w64 (get_or s i 0 ∷ get_or s (i + 1) 0 ∷ get_or s (i + 2) 0 ∷ get_or s (i + 3) 0 ∷ get_or s (i + 4) 0 ∷ get_or s (i + 5) 0 ∷ get_or s (i + 6) 0 ∷ get_or s (i + 7) 0 ∷ [])
+      → bytes_of 8 w ≡ between i (i + 8) s
+  unfolding between
+  word_is w h f e =
+      let z = eight_at h in
+      bytes_are w ∙ le_bytes_8 (between i (i + 8) s) w (ap length z) small (e ∙ ap (from_le_bytes w64) (sym z))
+    where
+      small : (k : ℕ) → get_or (between i (i + 8) s) k 0 < 256
+      small k = go (dec_lt k (i + 8 - i))
+        where
+          go : Dec (k < i + 8 - i) → get_or (take (i + 8 - i) (drop i s)) k 0 < 256
+          go (yes l) = rw (get_or-take (i + 8 - i) (drop i s) k 0 l, get_or-drop i s k 0) (f (i + k))
+          go (no l) = omega (arith, get_or_past (take (i + 8 - i) (drop i s)) k 0 (omega (arith, length-take-le (i + 8 - i) (drop i s) (omega (arith, length-drop i s)))))
 
 -- ---- bytes without b
 

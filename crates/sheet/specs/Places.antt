@@ -16,9 +16,9 @@ is_at file at b = ltb at (length file) && eqb (get_or file at 0) b
 unfoldable pub is_digit_at : List ℕ → ℕ → Bool
 is_digit_at file at = ltb at (length file) && is_digit (get_or file at 0)
 
--- The value of the hexadecimal digit at a place, and 16 where none stands
-unfoldable pub hex_digit_at : List ℕ → ℕ → ℕ
-hex_digit_at file at = when ltb at (length file) && is_hex_digit (get_or file at 0) then hex_digit (get_or file at 0) else 16
+-- The value of the hexadecimal digit at a place
+unfoldable pub hex_digit_at : List ℕ → ℕ → Option ℕ
+hex_digit_at file at = then_some (ltb at (length file) && is_hex_digit (get_or file at 0)) (hex_digit (get_or file at 0))
 
 -- The hexadecimal digits with which bytes begin, as many as there are
 unfoldable pub hex_run : List ℕ → List ℕ

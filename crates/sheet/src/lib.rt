@@ -14,7 +14,7 @@ pub use fields::{COMMA, count_fields, field};
 pub use lines::{LF, find_lf, index_from, next_line, part};
 pub use numbers::read_number;
 pub use quick::{is_at, next_request};
-pub use requests::{parse, refusal};
+pub use requests::{accept, parse};
 pub use word_fields::read_word;
 
 // What stands at a place of a file.

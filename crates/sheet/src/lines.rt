@@ -15,14 +15,12 @@ pub const LONGEST: usize = 80;
 pub fn index_from(s: &[u8], at: usize, b: u8) -> usize
     ensures { result ≡ at + index_of b (drop at s.now) }
 {
-    let mut i = at;
-    while i < s.len() {
+    for i in at..s.len() {
         if s[i] == b {
             return i;
         }
-        i += 1;
     }
-    i
+    at.max(s.len())
 }
 
 // The first LF at or after a place.
@@ -34,23 +32,16 @@ pub fn find_lf(file: &[u8], at: usize) -> Option<usize>
     (i < file.len()).then_some(i)
 }
 
-// The smaller of two numbers.
-fn least(a: usize, b: usize) -> usize
-    ensures { result ≡ min a b }
-{
-    if a < b { a } else { b }
-}
-
 // The bytes from one place up to another, as many of them as there are.
 pub fn part(s: &[u8], from: usize, to: usize) -> &[u8]
     ensures { result.now ≡ between from to s.now }
 {
-    let end = least(to, s.len());
-    let start = least(from, end);
-    &s[start..end]
+    let end = to.min(s.len());
+    &s[from.min(end)..end]
 }
 
 // Whether a line of n bytes without LF is neither empty nor too long.
+#[tactic(auto, unfolding(crate::specs::Lines::well_sized))]
 fn is_well_sized(n: usize) -> bool
     ensures { result ≡ well_sized n }
 {
@@ -64,12 +55,8 @@ pub fn next_line(file: &[u8], at: usize) -> Line
     if file.len() <= at {
         return Line::End;
     }
-    let Some(end) = find_lf(file, at) else {
-        return Line::Refused;
-    };
-    if is_well_sized(end - at) {
-        Line::Until(end)
-    } else {
-        Line::Refused
+    match find_lf(file, at) {
+        Some(end) if is_well_sized(end - at) => Line::Until(end),
+        _ => Line::Refused,
     }
 }

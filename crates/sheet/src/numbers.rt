@@ -1,9 +1,7 @@
 // The number that a field says.
-ghost use Rattle.std.specs.Prelude.{◌≡◌};
-ghost use Rattle.sheet.specs.Number.{digits_number, number_of};
-
-// The largest number that is read.
-pub const LARGEST: u64 = 4294967295;
+ghost use Rattle.std.specs.Prelude.{◌≡◌, ◌-◌};
+ghost use Rattle.std.specs.Bool.{then_some};
+ghost use Rattle.sheet.specs.Number.{is_digit, digits_number, number_of};
 
 // A byte to reckon with.
 pub fn wide(b: u8) -> u64
@@ -12,39 +10,35 @@ pub fn wide(b: u8) -> u64
     b as u64
 }
 
-// What digits say; the bytes 48 to 57 are the digits. A value that is too large stays so, whatever digits follow: the loop
-// stops there, and so no value wraps.
+// The value of a decimal digit.
+#[tactic(auto, unfolding(crate::specs::Number::is_digit))]
+pub fn digit(b: u8) -> Option<u32>
+    ensures { result ≡ then_some (is_digit b) (b - 48) }
+{
+    match b {
+        b'0'..=b'9' => Some((b - b'0') as u32),
+        _ => None,
+    }
+}
+
+// What digits say.
 fn digits(field: &[u8]) -> Option<u32>
     ensures { result ≡ digits_number field.now }
 {
-    let mut value: u64 = 0;
-    let mut i = 0;
-    while i < field.len() {
-        let b = wide(field[i]);
-        if b < 48 {
-            return None;
-        }
-        if 57 < b {
-            return None;
-        }
-        value = value * 10 + (b - 48);
-        if LARGEST < value {
-            return None;
-        }
-        i += 1;
+    let mut value: u32 = 0;
+    for &b in field {
+        value = value.checked_mul(10)?.checked_add(digit(b)?)?;
     }
-    Some(value as u32)
+    Some(value)
 }
 
 // The number that a field says: decimal digits, without a leading zero.
+#[tactic(auto, using(crate::proofs::NumberLaws::empty_number, crate::proofs::NumberLaws::zero_number, crate::proofs::NumberLaws::plain_number))]
 pub fn read_number(field: &[u8]) -> Option<u32>
     ensures { result ≡ number_of field.now }
 {
-    if field.len() == 0 {
-        return None;
+    match field {
+        [] | [b'0', _, ..] => None,
+        _ => digits(field),
     }
-    if (field[0] == 48) & (1 < field.len()) {
-        return None;
-    }
-    digits(field)
 }

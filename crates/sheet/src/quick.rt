@@ -1,6 +1,7 @@
 // The next request of a file. Lines of the two common kinds, I and S, are read once, where they stand in the file. What
 // cannot be read so is left to the reader of any line: a reading here may fail for any reason, but must not be wrong.
-ghost use Rattle.std.specs.Prelude.{◌≡◌, true, ◌≤◌, IfSome, Some};
+ghost use Rattle.std.specs.Prelude.{◌≡◌, true, ◌≤◌, ◌-◌, get_or, IfSome, Some};
+ghost use Rattle.std.specs.Bool.{then_some};
 ghost use Rattle.sheet.specs.Number.{number_of};
 ghost use Rattle.sheet.specs.WordField.{word_of};
 ghost use Rattle.sheet.specs.Grammar.{letter_i, letter_s, next_at};
@@ -9,33 +10,33 @@ ghost use Rattle.sheet.specs.Places.{is_at, is_digit_at, begins_with, ends_line,
 use crate::Request;
 use crate::fields::COMMA;
 use crate::lines::{LF, LONGEST, part};
-use crate::numbers::{LARGEST, wide};
+use crate::numbers::digit;
+
+// The largest number that is read. A test against it is quicker here than `checked_mul` and `checked_add` of 32 bits are.
+const LARGEST: u64 = 4294967295;
+
 use crate::requests::{INPUT, SCAN, request_at};
 use crate::word_fields::{has_0x, hex_run};
 
 // Whether a place of a file has this byte.
+#[tactic(auto, unfolding(crate::specs::Places::is_at))]
 pub fn is_at(file: &[u8], at: usize, b: u8) -> bool
     ensures { result ≡ is_at file.now at b }
 {
-    if at < file.len() {
-        return file[at] == b;
-    }
-    false
+    file.get(at) == Some(&b)
 }
 
-// Whether it has a digit.
-fn is_digit_at(file: &[u8], at: usize) -> bool
-    ensures { result ≡ is_digit_at file.now at }
+// The value of the digit that stands there.
+#[tactic(auto, unfolding(crate::specs::Places::is_digit_at))]
+fn digit_at(file: &[u8], at: usize) -> Option<u32>
+    ensures { result ≡ then_some (is_digit_at file.now at) (get_or file.now at 0 - 48) }
 {
-    if at < file.len() {
-        let b = file[at];
-        return (48 <= b) & (b <= 57);
-    }
-    false
+    digit(*file.get(at)?)
 }
 
 // The number at a place of a file. A 0 is read alone, so that no leading zero is taken: a digit after it stands where the
 // caller looks for the end of the field.
+#[tactic(auto, unfolding(crate::specs::Places::Read))]
 fn number_at(file: &[u8], at: usize) -> Option<(u32, usize)>
     ensures { Read number_of file.now at result }
 {
@@ -44,17 +45,14 @@ fn number_at(file: &[u8], at: usize) -> Option<(u32, usize)>
     }
     let mut value: u64 = 0;
     let mut i = at;
-    while is_digit_at(file, i) {
-        value = value * 10 + (wide(file[i]) - 48);
+    while let Some(digit) = digit_at(file, i) {
+        value = value * 10 + digit as u64;
         if LARGEST < value {
             return None;
         }
         i += 1;
     }
-    if value == 0 {
-        return None;
-    }
-    Some((value as u32, i))
+    (at < i).then_some((value as u32, i))
 }
 
 // The word at a place of a file.
@@ -68,6 +66,7 @@ fn word_at(file: &[u8], at: usize) -> Option<(u32, usize)>
 }
 
 // Whether a field of this letter alone stands at a place of a file, and a comma after it.
+#[tactic(auto, using(crate::proofs::PlaceLaws::byte_at), unfolding(crate::specs::Places::begins_with))]
 fn begins_with(file: &[u8], at: usize, letter: u8) -> bool
     ensures { result ≡ begins_with file.now at letter }
 {
@@ -78,6 +77,7 @@ fn begins_with(file: &[u8], at: usize, letter: u8) -> bool
 }
 
 // Whether an LF stands at `end`, and a line from `at` up to there is not too long.
+#[tactic(auto, unfolding(crate::specs::Places::ends_line))]
 fn ends_line(file: &[u8], at: usize, end: usize) -> bool
     requires { at ≤ end }
     ensures { result ≡ ends_line file.now at end }
@@ -86,6 +86,7 @@ fn ends_line(file: &[u8], at: usize, end: usize) -> bool
 }
 
 // The request of a line that begins with an S.
+#[tactic(auto, using(crate::proofs::PlaceLaws::number_said, crate::proofs::PlaceLaws::begun_inside, crate::proofs::PlaceLaws::ended_inside, crate::proofs::PlaceLaws::scan_next), unfolding(crate::specs::Places::Read))]
 fn scan_at(file: &[u8], at: usize) -> Option<(Request, usize)>
     requires { begins_with file.now at letter_s ≡ true }
     ensures { IfSome result (λ r. next_at file.now at ≡ Some r) }

@@ -1,12 +1,15 @@
 // The request that a line makes.
-ghost use Rattle.std.specs.Prelude.{◌≡◌};
-ghost use Rattle.sheet.specs.Grammar.{letter_of, number_in, word_in, motor_from, input_from, scan_from, motor_of, input_of, scan_of, request_of, next_at, request_refusal};
+ghost use Rattle.std.specs.Prelude.{◌≡◌, unwrap_or};
+ghost use Rattle.rules.specs.Numbers.{code_of};
+ghost use Rattle.sheet.specs.declared.Request.TheVariants.{Refused};
+ghost use Rattle.sheet.specs.Grammar.{letter_of, number_in, word_in, motor_of, input_of, scan_of, request_of, next_at, request_refusal};
 
-use crate::fields::{after, count_fields, first};
+use crate::fields::{count_fields, field};
 use crate::lines::{next_line, part};
 use crate::numbers::read_number;
 use crate::word_fields::read_word;
 use crate::{Line, Request};
+use rules::Refusal;
 
 // The first field of a line of each kind.
 const MOTOR: u8 = b'M';
@@ -16,130 +19,81 @@ pub const INPUT: u8 = b'I';
 pub const SCAN: u8 = b'S';
 
 // The byte of a field of one byte, and 0 of any other.
+#[tactic(auto, unfolding(words::specs::Opened::choices, crate::specs::Grammar::letter_of))]
 fn letter(field: &[u8]) -> u8
     ensures { result ≡ letter_of field.now }
 {
-    if field.len() == 1 { field[0] } else { 0 }
-}
-
-// The number in the first field of what is left of a line.
-fn first_number(rest: &[u8]) -> Option<u32>
-    ensures { result ≡ number_in rest.now 0 }
-{
-    read_number(first(rest))
-}
-
-// The word in it.
-fn first_word(rest: &[u8]) -> Option<u32>
-    ensures { result ≡ word_in rest.now 0 }
-{
-    read_word(first(rest))
-}
-
-// A motor line's request, by its numbers.
-#[tactic(auto, unfolding(crate::specs::Grammar::motor_from, crate::specs::Grammar::with_value))]
-fn motor(a: Option<u32>, b: Option<u32>, c: Option<u32>, d: Option<u32>, e: Option<u32>) -> Request
-    ensures { result ≡ motor_from a b c d e }
-{
-    let Some(number) = a else {
-        return Request::Refused;
-    };
-    let Some(ops1) = b else {
-        return Request::Refused;
-    };
-    let Some(ops2) = c else {
-        return Request::Refused;
-    };
-    let Some(w) = d else {
-        return Request::Refused;
-    };
-    let Some(u) = e else {
-        return Request::Refused;
-    };
-    Request::Motor {
-        number,
-        ops1,
-        ops2,
-        w,
-        u,
+    match field {
+        [b] => *b,
+        _ => 0,
     }
 }
 
-// An input line's.
-fn input(a: Option<u32>, b: Option<u32>) -> Request
-    ensures { result ≡ input_from a b }
+// The number that a field of a line says.
+#[tactic(auto, unfolding(crate::specs::Grammar::number_in))]
+fn number(line: &[u8], k: usize) -> Option<u32>
+    ensures { result ≡ number_in line.now k }
 {
-    let Some(number) = a else {
-        return Request::Refused;
-    };
-    let Some(word) = b else {
-        return Request::Refused;
-    };
-    Request::Input { number, word }
+    read_number(field(line, k))
 }
 
-// A scan line's.
-fn scan(a: Option<u32>) -> Request
-    ensures { result ≡ scan_from a }
+// The word that it says.
+#[tactic(auto, unfolding(crate::specs::Grammar::word_in))]
+fn word(line: &[u8], k: usize) -> Option<u32>
+    ensures { result ≡ word_in line.now k }
 {
-    let Some(period) = a else {
-        return Request::Refused;
-    };
-    Request::Scan { period }
+    read_word(field(line, k))
 }
 
-// A line of each kind is read from field to field, so that its bytes are not searched from the start for each.
-fn motor_line(line: &[u8]) -> Request
-    ensures { result ≡ motor_of line.now }
+#[tactic(auto, unfolding(crate::specs::Grammar::motor_of, crate::specs::Grammar::motor_from, crate::specs::Grammar::with_value))]
+fn motor(line: &[u8]) -> Option<Request>
+    ensures { unwrap_or result Refused ≡ motor_of line.now }
 {
-    let one = after(line);
-    let two = after(one);
-    let three = after(two);
-    let four = after(three);
-    let five = after(four);
-    motor(
-        first_number(one),
-        first_word(two),
-        first_word(three),
-        first_number(four),
-        first_number(five),
-    )
+    Some(Request::Motor {
+        number: number(line, 1)?,
+        ops1: word(line, 2)?,
+        ops2: word(line, 3)?,
+        w: number(line, 4)?,
+        u: number(line, 5)?,
+    })
 }
 
-fn input_line(line: &[u8]) -> Request
-    ensures { result ≡ input_of line.now }
+#[tactic(auto, unfolding(crate::specs::Grammar::input_of, crate::specs::Grammar::input_from, crate::specs::Grammar::with_value))]
+fn input(line: &[u8]) -> Option<Request>
+    ensures { unwrap_or result Refused ≡ input_of line.now }
 {
-    let one = after(line);
-    let two = after(one);
-    input(first_number(one), first_word(two))
+    Some(Request::Input {
+        number: number(line, 1)?,
+        word: word(line, 2)?,
+    })
 }
 
-fn scan_line(line: &[u8]) -> Request
-    ensures { result ≡ scan_of line.now }
+#[tactic(auto, unfolding(crate::specs::Grammar::scan_of, crate::specs::Grammar::scan_from, crate::specs::Grammar::with_value))]
+fn scan(line: &[u8]) -> Option<Request>
+    ensures { unwrap_or result Refused ≡ scan_of line.now }
 {
-    scan(first_number(after(line)))
+    Some(Request::Scan {
+        period: number(line, 1)?,
+    })
 }
 
 // The request that a line makes.
+#[tactic(auto, unfolding(words::specs::Opened::choices, crate::specs::Grammar::request_of, crate::specs::Grammar::is_kind))]
 pub fn parse(line: &[u8]) -> Request
     ensures { result ≡ request_of line.now }
 {
-    let kind = letter(first(line));
-    let count = count_fields(line);
-    if (kind == MOTOR) & (count == 6) {
-        return motor_line(line);
-    }
-    if (kind == INPUT) & (count == 3) {
-        return input_line(line);
-    }
-    if (kind == SCAN) & (count == 2) {
-        return scan_line(line);
-    }
-    Request::Refused
+    let request = match (letter(field(line, 0)), count_fields(line)) {
+        (MOTOR, 6) => motor(line),
+        (INPUT, 3) => input(line),
+        (SCAN, 2) => scan(line),
+        _ => None,
+    };
+    request.unwrap_or(Request::Refused)
 }
 
 // The request of the line at a place of a file, and the place after that line. After one that is empty, too long or without LF
 // that is the file's end, since the program stops there.
+#[tactic(auto, using(crate::proofs::LineLaws::until_whole), unfolding(crate::specs::Grammar::next_at, crate::specs::Grammar::taken_at))]
 pub fn request_at(file: &[u8], at: usize) -> Option<(Request, usize)>
     ensures { result ≡ next_at file.now at }
 {
@@ -150,15 +104,13 @@ pub fn request_at(file: &[u8], at: usize) -> Option<(Request, usize)>
     }
 }
 
-// The paper's number for a refused line, and 0 for any other.
+// Whether a line makes a request at all; the paper's refusal of one that makes none.
 #[tactic(auto, unfolding(crate::specs::Grammar::request_refusal))]
-pub fn refusal(request: Request) -> u32
-    ensures { result ≡ request_refusal request }
+pub fn accept(request: Request) -> Result<(), Refusal>
+    ensures { code_of result ≡ request_refusal request }
 {
     match request {
-        Request::Motor { .. } => 0,
-        Request::Input { .. } => 0,
-        Request::Scan { .. } => 0,
-        Request::Refused => 5,
+        Request::Refused => Err(Refusal::Line),
+        _ => Ok(()),
     }
 }

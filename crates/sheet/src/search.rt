@@ -1,5 +1,5 @@
 // The search for LF, eight bytes at a time.
-ghost use Rattle.std.specs.Prelude.{◌≡◌, ◌+◌, ◌-◌, ◌≤◌, [], ◌∷◌, length, drop};
+ghost use Rattle.std.specs.Prelude.{◌≡◌, ◌+◌, ◌≤◌, length, drop};
 ghost use Rattle.sheet.specs.Split.{LF, index_of, between};
 ghost use Rattle.sheet.specs.WordBytes.{bytes_of, contains};
 
@@ -13,21 +13,12 @@ const LOW_BITS: u64 = 0x7F7F_7F7F_7F7F_7F7F;
 
 const ALL_BITS: u64 = 0xFFFF_FFFF_FFFF_FFFF;
 
-// Eight bytes as one word, the first the lowest.
-fn word_of(b0: u8, b1: u8, b2: u8, b3: u8, b4: u8, b5: u8, b6: u8, b7: u8) -> u64
-    ensures { bytes_of 8 result ≡ b0 ∷ b1 ∷ b2 ∷ b3 ∷ b4 ∷ b5 ∷ b6 ∷ b7 ∷ [] }
-{
-    let low = b0 as u64 + b1 as u64 * 0x100 + b2 as u64 * 0x1_0000 + b3 as u64 * 0x100_0000;
-    let high = b4 as u64 + b5 as u64 * 0x100 + b6 as u64 * 0x1_0000 + b7 as u64 * 0x100_0000;
-    low + high * 0x1_0000_0000
-}
-
-// The word of the eight bytes from a place on.
+// The word of the eight bytes from a place on, the first the lowest.
 fn word_at(s: &[u8], i: usize) -> u64
     requires { i + 8 ≤ length s.now }
     ensures { bytes_of 8 result ≡ between i (i + 8) s.now }
 {
-    word_of(
+    u64::from_le_bytes([
         s[i],
         s[i + 1],
         s[i + 2],
@@ -36,7 +27,7 @@ fn word_at(s: &[u8], i: usize) -> u64
         s[i + 5],
         s[i + 6],
         s[i + 7],
-    )
+    ])
 }
 
 // Whether one of a word's eight bytes is LF, all tested at once. In each byte the low seven bits become 0 exactly if they are
@@ -49,18 +40,13 @@ fn has_lf(w: u64) -> bool
     ((((w & LOW_BITS) ^ LFS) + LOW_BITS) | w | LOW_BITS) != ALL_BITS
 }
 
-// How many of n places have eight bytes from there on.
-fn word_places(n: usize) -> usize
-    ensures { result ≡ n - 7 }
-{
-    if n < 7 { 0 } else { n - 7 }
-}
-
 // The first LF at `at` or after it; the end of s, or `at` past it, if there is none.
 pub fn lf_from(s: &[u8], at: usize) -> usize
     ensures { result ≡ at + index_of LF (drop at s.now) }
 {
-    let places = word_places(s.len());
+    // places from which eight bytes stand
+    let places = s.len().saturating_sub(7);
+    // no `for`: what follows needs the place at which the loop ends
     let mut i = at;
     while i < places {
         if has_lf(word_at(s, i)) {

@@ -1,57 +1,49 @@
 // The word that a field says: a number, or hexadecimal digits after 0x.
 ghost use Rattle.std.specs.Prelude.{◌≡◌};
-ghost use Rattle.words.specs.Word.{when◌then◌else◌};
+ghost use Rattle.std.specs.Bool.{then_some};
 ghost use Rattle.sheet.specs.WordField.{is_hex_digit, hex_digit, hex_number, has0x, word_of};
 ghost use Rattle.sheet.specs.Places.{hex_digit_at, hex_run_at};
 
 use crate::lines::part;
-use crate::numbers::{read_number, wide};
+use crate::numbers::read_number;
 
 // How many hexadecimal digits a word may have.
 const MOST_DIGITS: usize = 8;
 
-// The value of a hexadecimal digit, and 16 of any other byte.
-fn hex_digit(b: u8) -> u64
-    ensures { result ≡ (when is_hex_digit b then hex_digit b else 16) }
+// The value of a hexadecimal digit.
+#[tactic(auto, unfolding(words::specs::Opened::choices, crate::specs::WordField::is_hex_digit, crate::specs::WordField::hex_digit, crate::specs::Number::is_digit))]
+fn hex_digit(b: u8) -> Option<u32>
+    ensures { result ≡ then_some (is_hex_digit b) (hex_digit b) }
 {
-    if (48 <= b) & (b <= 57) {
-        return wide(b) - 48;
+    match b {
+        b'0'..=b'9' => Some((b - b'0') as u32),
+        b'A'..=b'F' => Some((b - b'A') as u32 + 10),
+        _ => None,
     }
-    if (65 <= b) & (b <= 70) {
-        return wide(b) - 55;
-    }
-    16
 }
 
-// The value of the digit at a place, and 16 where none stands.
-fn hex_digit_at(s: &[u8], at: usize) -> u64
+// The value of the digit at a place.
+#[tactic(auto, unfolding(crate::specs::Places::hex_digit_at))]
+fn hex_digit_at(s: &[u8], at: usize) -> Option<u32>
     ensures { result ≡ hex_digit_at s.now at }
 {
-    if at < s.len() {
-        return hex_digit(s[at]);
-    }
-    16
+    hex_digit(*s.get(at)?)
 }
 
-// The digits from a place on, up to a byte that is none. A ninth ends the loop, so that no value wraps.
+// The digits from a place on, up to a byte that is none, if they are as many as a word may have.
 pub fn hex_run(s: &[u8], at: usize) -> Option<(u32, usize)>
     ensures { result ≡ hex_run_at s.now at }
 {
-    let mut value: u64 = 0;
+    let mut value: u32 = 0;
     let mut i = at;
-    let mut digit = hex_digit_at(s, i);
-    while digit < 16 {
-        value = value * 16 + digit;
-        i += 1;
-        if MOST_DIGITS < i - at {
+    while let Some(digit) = hex_digit_at(s, i) {
+        if i - at == MOST_DIGITS {
             return None;
         }
-        digit = hex_digit_at(s, i);
+        value = value * 16 + digit;
+        i += 1;
     }
-    if i == at {
-        return None;
-    }
-    Some((value as u32, i))
+    (at < i).then_some((value, i))
 }
 
 // What stands after 0x: digits alone.
@@ -64,16 +56,15 @@ fn hex_digits(digits: &[u8]) -> Option<u32>
 }
 
 // Whether a field begins with 0x.
+#[tactic(auto, using(crate::proofs::WordFieldLaws::short_no_0x), unfolding(crate::specs::WordField::has0x))]
 pub fn has_0x(field: &[u8]) -> bool
     ensures { result ≡ has0x field.now }
 {
-    if field.len() < 2 {
-        return false;
-    }
-    (field[0] == b'0') & (field[1] == b'x')
+    matches!(field, [b'0', b'x', ..])
 }
 
 // The word that a field says.
+#[tactic(auto, using(crate::proofs::SplitLaws::between_last), unfolding(words::specs::Opened::choices, crate::specs::WordField::word_of))]
 pub fn read_word(field: &[u8]) -> Option<u32>
     ensures { result ≡ word_of field.now }
 {

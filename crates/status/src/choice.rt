@@ -1,4 +1,6 @@
 // Steps 7 and 8: acknowledging, and the choice among the commands.
+#![tactic(auto, unfolding(rules::specs::Opened::opened))]
+
 ghost use Rattle.std.specs.Prelude.{◌≡◌};
 ghost use Rattle.rules.specs.Steps.{acknowledges_off, acknowledges_on, flags7, status7, acknowledges, wrong_place, on_forbidden, off_forbidden, admitted, candidate, chosen, displaces, starts, issues, issued};
 
@@ -22,6 +24,7 @@ pub fn is_on_acknowledged(s: Settings, v: Status, word: u32) -> bool
     !has(word, 1) & is_risen(v, word, 7) & has(s.ops2, 0) & has(v.flags, 4)
 }
 
+#[tactic(auto, using(crate::proofs::Masks::off_flags), unfolding(rules::specs::Steps::flags7))]
 pub fn acknowledged_flags(s: Settings, v: Status, word: u32) -> u32
     ensures { result ≡ flags7 s v word }
 {
@@ -37,9 +40,10 @@ pub fn acknowledged_flags(s: Settings, v: Status, word: u32) -> u32
 pub fn acknowledge(s: Settings, v: Status, word: u32) -> Status
     ensures { result ≡ status7 s v word }
 {
-    let mut n = v;
-    n.flags = acknowledged_flags(s, v, word);
-    n
+    Status {
+        flags: acknowledged_flags(s, v, word),
+        ..v
+    }
 }
 
 // Whether the rise of c acknowledges, and is no command.
@@ -91,14 +95,7 @@ pub fn is_candidate(s: Settings, v: Status, word: u32, c: u32) -> bool
 pub fn choice(s: Settings, v: Status, word: u32) -> u32
     ensures { result ≡ chosen s v word }
 {
-    let mut c: u32 = 1;
-    while c < 8 {
-        if is_candidate(s, v, word, c) {
-            return c;
-        }
-        c += 1;
-    }
-    0
+    (1..8).find(|&c| is_candidate(s, v, word, c)).unwrap_or(0)
 }
 
 // Whether the chosen command is issued at a position, with none under way.

@@ -1,4 +1,6 @@
 // The seven switching commands, by number: 0 is no command.
+#![tactic(auto, unfolding(rules::specs::Opened::opened))]
+
 ghost use Rattle.std.specs.Prelude.{◌≡◌};
 ghost use Rattle.rules.specs.Record.{direction, is_on, is_off, is_mu, is_ko, input_bit, command_risen};
 
@@ -10,16 +12,18 @@ const DIRECTIONS: [u32; 8] = [0, 1, 1, 2, 1, 2, 1, 2];
 
 const INPUT_BITS: [u32; 8] = [32, 0, 8, 7, 3, 2, 13, 12];
 
+#[tactic(auto, using(crate::proofs::Tables::direction_at, crate::proofs::Tables::direction_past))]
 pub fn direction_of(c: u32) -> u32
     ensures { result ≡ direction c }
 {
-    if c < 8 { DIRECTIONS[c as usize] } else { 0 }
+    DIRECTIONS.get(c as usize).copied().unwrap_or(0)
 }
 
+#[tactic(auto, using(crate::proofs::Tables::input_at, crate::proofs::Tables::input_past))]
 pub fn input_bit(c: u32) -> u32
     ensures { result ≡ input_bit c }
 {
-    if c < 8 { INPUT_BITS[c as usize] } else { 32 }
+    INPUT_BITS.get(c as usize).copied().unwrap_or(32)
 }
 
 pub fn is_on(c: u32) -> bool

@@ -1,4 +1,6 @@
 // Step 4, on the status: the end of the command under way.
+#![tactic(auto, unfolding(rules::specs::Opened::opened))]
+
 ghost use Rattle.std.specs.Prelude.{◌≡◌};
 ghost use Rattle.words.specs.Word.{with_bit};
 ghost use Rattle.rules.specs.Record.{overdue_flag};
@@ -67,9 +69,10 @@ pub fn flags_now(v: Status, r: Reading, up: bool) -> u32
 pub fn end_command(v: Status, r: Reading, up: bool) -> Status
     ensures { result ≡ status4 v r up }
 {
-    let mut n = v;
-    n.command = choose(is_ended(v, r, up), 0, v.command);
-    n.end = end_now(v, r, up);
-    n.flags = flags_now(v, r, up);
-    n
+    Status {
+        command: choose(is_ended(v, r, up), 0, v.command),
+        end: end_now(v, r, up),
+        flags: flags_now(v, r, up),
+        ..v
+    }
 }

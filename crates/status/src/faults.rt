@@ -1,4 +1,6 @@
 // Step 5: flags 0 (no supply), 1 (switch fault) and 14 (switch fault, both closed).
+#![tactic(auto, unfolding(rules::specs::Opened::opened))]
+
 ghost use Rattle.std.specs.Prelude.{◌≡◌};
 ghost use Rattle.rules.specs.Steps.{faults_formed, supply_fault, switch_fault, put_flag, status5};
 
@@ -35,7 +37,8 @@ pub fn form_flags(s: Settings, v: Status, word: u32, r: Reading) -> Status
 {
     let fault = has_switch_fault(s, v, word, r);
     let f = put_flag(put_flag(v.flags, 0, lacks_supply(s, word)), 1, fault);
-    let mut n = v;
-    n.flags = put_flag(f, 14, fault & both_closed(r));
-    n
+    Status {
+        flags: put_flag(f, 14, fault & both_closed(r)),
+        ..v
+    }
 }

@@ -1,4 +1,6 @@
 // Steps 9 and 10, on the status: issuing a command, and the previous word.
+#![tactic(auto, unfolding(rules::specs::Opened::opened))]
+
 ghost use Rattle.std.specs.Prelude.{◌≡◌};
 ghost use Rattle.rules.specs.Steps.{flags9, turns_to_work, issue_status, status10};
 
@@ -9,6 +11,7 @@ use words::{choose, has, masked_out, with_bit, without_bit};
 // Flags 5 and 6.
 const OFF_FLAGS: u32 = 96;
 
+#[tactic(auto, using(crate::proofs::Masks::off_flags), unfolding(rules::specs::Steps::flags9))]
 pub fn issue_flags(c: u32, flags: u32) -> u32
     ensures { result ≡ flags9 c flags }
 {
@@ -33,19 +36,21 @@ pub fn turns_to_work(s: Settings, v: Status, c: u32) -> bool
 pub fn issue_status(s: Settings, v: Status, c: u32) -> Status
     ensures { result ≡ issue_status s v c }
 {
-    let mut n = v;
-    n.mode = choose(turns_to_work(s, v, c), 2, v.mode);
-    n.command = c;
-    n.end = choose(v.command == 0, v.end, 2);
-    n.flags = issue_flags(c, v.flags);
-    n
+    Status {
+        mode: choose(turns_to_work(s, v, c), 2, v.mode),
+        command: c,
+        end: choose(v.command == 0, v.end, 2),
+        flags: issue_flags(c, v.flags),
+        ..v
+    }
 }
 
 // Step 10.
 pub fn keep_word(v: Status, word: u32) -> Status
     ensures { result ≡ status10 v word }
 {
-    let mut n = v;
-    n.previous = word;
-    n
+    Status {
+        previous: word,
+        ..v
+    }
 }

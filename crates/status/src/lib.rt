@@ -1,5 +1,6 @@
 // The steps of a scan that go by a motor's settings, status and input word alone: all but the sums and the output.
-// No loop but the choice among the seven commands; every function is defined for any settings, status and word.
+// Every function is defined for any settings, status and word. These go side by side: each step makes another status, so that a
+// struct of the three would be made anew at each.
 #![tactic(auto)]
 
 pub mod choice;

@@ -1,4 +1,6 @@
 // Step 6: the mode.
+#![tactic(auto, unfolding(rules::specs::Opened::opened))]
+
 ghost use Rattle.std.specs.Prelude.{◌≡◌, eqb};
 ghost use Rattle.rules.specs.Record.{commands, command_risen};
 ghost use Rattle.rules.specs.Steps.{modes_risen, mode_asked, any_of, reserve_allowed, mode_allowed, mode_changes, status6};
@@ -32,9 +34,7 @@ pub fn asked_mode(v: Status, word: u32) -> u32
 pub fn is_any_risen(v: Status, word: u32) -> bool
     ensures { result ≡ any_of (command_risen v word) commands }
 {
-    let panel = is_risen(v, word, 4)
-        | (is_risen(v, word, 5) | (is_risen(v, word, 6) | is_risen(v, word, 7)));
-    is_risen(v, word, 1) | (is_risen(v, word, 2) | (is_risen(v, word, 3) | panel))
+    (1..8).any(|c| is_risen(v, word, c))
 }
 
 pub fn is_reserve_allowed(s: Settings, v: Status) -> bool
@@ -60,7 +60,8 @@ pub fn is_mode_changing(s: Settings, v: Status, word: u32) -> bool
 pub fn change_mode(s: Settings, v: Status, word: u32) -> Status
     ensures { result ≡ status6 s v word }
 {
-    let mut n = v;
-    n.mode = choose(is_mode_changing(s, v, word), asked_mode(v, word), v.mode);
-    n
+    Status {
+        mode: choose(is_mode_changing(s, v, word), asked_mode(v, word), v.mode),
+        ..v
+    }
 }

@@ -1,4 +1,6 @@
 // Steps 1 and 2: end and Reset, and the switches.
+#![tactic(auto, unfolding(rules::specs::Opened::opened))]
+
 ghost use Rattle.std.specs.Prelude.{◌≡◌};
 ghost use Rattle.rules.specs.Steps.{status1, read_on_switch, pair_read, read_switches, reading, is_sure, position_read, both_closed, flags2, pretended, status2};
 
@@ -9,13 +11,15 @@ use words::{choose, has, masked_out, with_bit};
 const RESET_FLAGS: u32 = 16380;
 
 // Step 1.
+#[tactic(auto, using(crate::proofs::Masks::reset_flags), unfolding(rules::specs::Steps::status1, rules::specs::Steps::flags1, rules::specs::Record::with_flags, rules::specs::Record::with_command, rules::specs::Record::reset))]
 pub fn begin(v: Status, word: u32) -> Status
     ensures { result ≡ status1 v word }
 {
-    let mut n = v;
-    n.end = 0;
-    n.flags = choose(has(word, 16), masked_out(v.flags, RESET_FLAGS), v.flags);
-    n
+    Status {
+        end: 0,
+        flags: choose(has(word, 16), masked_out(v.flags, RESET_FLAGS), v.flags),
+        ..v
+    }
 }
 
 // The reading of the On switch alone.
@@ -84,12 +88,7 @@ pub fn is_sure(r: Reading) -> bool
 pub fn both_closed(r: Reading) -> bool
     ensures { result ≡ both_closed r }
 {
-    match r {
-        Reading::Off => false,
-        Reading::On => false,
-        Reading::BothOpen => false,
-        Reading::BothClosed => true,
-    }
+    r == Reading::BothClosed
 }
 
 // The flags after a change of position that no command asked for.
@@ -118,9 +117,10 @@ pub fn switches(s: Settings, v: Status, r: Reading) -> Status
 {
     let sure = is_sure(r);
     let seen = position_read(r);
-    let mut n = v;
-    n.sure = choose(sure, seen, v.sure);
-    n.position = choose(sure, seen, pretend(s, v.sure));
-    n.flags = change_flags(v, r);
-    n
+    Status {
+        sure: choose(sure, seen, v.sure),
+        position: choose(sure, seen, pretend(s, v.sure)),
+        flags: change_flags(v, r),
+        ..v
+    }
 }

@@ -63,7 +63,7 @@ fn step_all(table: &mut [Motor], words: &[u32], period: u32)
     requires { table_refusal table.old words.now period ≡ 0 }
     ensures { table.new ≡ step_all table.old words.now period }
 {
-    // a loop over lent records and their words side by side says nothing of the records
+    // by index: after a loop over `iter_mut` with the words beside it, nothing is known of the records
     for i in 0..table.len() {
         table[i] = motor::scan(table[i], words[i], period).unwrap();
     }
@@ -79,7 +79,7 @@ pub fn scan(table: &mut [Motor], words: &[u32], period: u32) -> Result<(), Refus
     Ok(())
 }
 
-// The first `count` records and words of two arrays.
+// The first `count` records and words of two arrays, for callers that have their motors so, in fixed memory.
 #[tactic(auto, unfolding(words::specs::Opened::choices, rules::specs::Refusals::most_motors, rules::specs::Refusals::part_refusal))]
 pub fn accept_array(
     records: [Motor; MOST_MOTORS],

@@ -3,6 +3,5 @@ pub mod Laws
 pub mod Running
 pub mod Theorem
 pub mod Lists
-pub mod Choices
 pub mod AtRest
 pub mod Vectors

@@ -11,13 +11,9 @@ ghost use Rattle.totals.specs.Running.{capped, no_totals, counted_if, has_issued
 
 use rules::{Motor, Reading, Status};
 use status::switches::position_read;
-use words::choose;
-
-// The largest number of 32 bits.
-const MOST: u32 = 4294967295;
 
 // What the T line of a motor has, but for the motor's number and whether a command is under way, which its record says.
-#[derive(Clone, Copy)]
+#[derive(Clone, Copy, Debug, Default, PartialEq, Eq)]
 pub struct Totals {
     pub issued: u32,
     pub confirmed: u32,
@@ -32,25 +28,19 @@ pub struct Totals {
 pub fn none() -> Totals
     ensures { (result ≡ no_totals) × ((s : Settings) (es : Log Entry) → TotalsClaim s (history s es)) }
 {
-    Totals {
-        issued: 0,
-        confirmed: 0,
-        displaced: 0,
-        overdue: 0,
-        on: 0,
-        best: 0,
-        worst: 0,
-    }
+    Totals::default()
 }
 
-// A sum, or the largest number where that is less.
+// A sum, or the largest number of 32 bits where that is less.
+#[tactic(auto, unfolding(crate::specs::Running::capped))]
 pub fn plus(a: u32, b: u32) -> u32
     ensures { result ≡ capped (a + b) }
 {
-    if MOST - a < b { MOST } else { a + b }
+    a.saturating_add(b)
 }
 
 // One more, if it counts.
+#[tactic(auto, unfolding(words::specs::Opened::choices, crate::specs::Running::counted_if))]
 fn count_if(n: u32, counts: bool) -> u32
     ensures { result ≡ counted_if n counts }
 {
@@ -58,6 +48,7 @@ fn count_if(n: u32, counts: bool) -> u32
 }
 
 // Whether a scan with the status v after it issued a command; `before` was under way before it.
+#[tactic(auto, unfolding(crate::specs::Running::has_issued, rules::specs::Record::idle))]
 fn has_issued(before: u32, v: Status) -> bool
     ensures { result ≡ has_issued before v }
 {
@@ -65,6 +56,7 @@ fn has_issued(before: u32, v: Status) -> bool
 }
 
 // The time with a sure On reading, after a scan that reads r.
+#[tactic(auto, unfolding(words::specs::Opened::choices, crate::specs::Running::on_after))]
 pub fn on_after(time: u32, r: Reading, period: u32) -> u32
     ensures { result ≡ on_after time r period }
 {
@@ -76,31 +68,39 @@ pub fn on_after(time: u32, r: Reading, period: u32) -> u32
 }
 
 // The best time after one more confirmation.
+#[tactic(auto, unfolding(words::specs::Opened::choices, crate::specs::Running::best_after))]
 fn best_after(before: u32, best: u32, time: u32) -> u32
     ensures { result ≡ best_after before best time }
 {
-    choose((before == 0) | (time < best), time, best)
+    if before == 0 { time } else { best.min(time) }
 }
 
 // The totals after a scan that reads r: m is the record before it, v the status after it.
+#[tactic(auto, unfolding(words::specs::Opened::choices, crate::specs::Running::totals_after, crate::specs::Running::counted_if))]
 pub fn after(t: Totals, m: Motor, v: Status, r: Reading, period: u32) -> Totals
     ensures { result ≡ totals_after t m v r period }
 {
-    let mut n = t;
-    n.on = on_after(t.on, r, period);
+    let on = on_after(t.on, r, period);
     let issued = has_issued(m.status.command, v);
     // most scans neither issue nor end a command
     if (v.end == 0) & !issued {
-        return n;
+        return Totals { on, ..t };
     }
-    n.issued = count_if(t.issued, issued);
-    n.displaced = count_if(t.displaced, v.end == 2);
-    n.overdue = count_if(t.overdue, v.end == 3);
-    if v.end == 1 {
-        let time = plus(m.sum, period);
-        n.confirmed = plus(t.confirmed, 1);
-        n.best = best_after(t.confirmed, t.best, time);
-        n.worst = choose(t.worst < time, time, t.worst);
+    let counted = Totals {
+        issued: count_if(t.issued, issued),
+        displaced: count_if(t.displaced, v.end == 2),
+        overdue: count_if(t.overdue, v.end == 3),
+        on,
+        ..t
+    };
+    if v.end != 1 {
+        return counted;
     }
-    n
+    let time = plus(m.sum, period);
+    Totals {
+        confirmed: plus(t.confirmed, 1),
+        best: best_after(t.confirmed, t.best, time),
+        worst: t.worst.max(time),
+        ..counted
+    }
 }

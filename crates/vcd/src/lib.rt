@@ -18,14 +18,14 @@ pub enum Wire {
 }
 
 // The header before its wires, and after them.
-#[tactic(auto, unfolding(crate::specs::Text::frame_start, crate::specs::Text::word_line, sheet::specs::Split::joined))]
+#[tactic(auto, unfolding(crate::specs::Opened::opened))]
 pub fn put_frame_start(page: &mut Page)
     ensures { Puts page.old frame_start page.new }
 {
     page.text(b"$timescale 1 ms $end\n$scope module bench $end\n")
 }
 
-#[tactic(auto, unfolding(crate::specs::Text::frame_end, crate::specs::Text::word_line, sheet::specs::Split::joined))]
+#[tactic(auto, unfolding(crate::specs::Opened::opened))]
 pub fn put_frame_end(page: &mut Page)
     ensures { Puts page.old frame_end page.new }
 {
@@ -56,6 +56,7 @@ pub fn put_time(page: &mut Page, time: u32)
 }
 
 // 1 or 0, as it is written.
+#[tactic(auto, unfolding(crate::specs::Opened::opened))]
 fn digit(value: bool) -> u8
     ensures { result ≡ digit_of value }
 {
@@ -66,6 +67,7 @@ fn digit(value: bool) -> u8
 }
 
 // A signal's value.
+#[tactic(auto, using(report::proofs::PutLaws::puts_then), unfolding(crate::specs::Opened::opened))]
 pub fn put_value(page: &mut Page, code: u8, value: bool)
     ensures { Puts page.old (value_line (code ∷ []) value) page.new }
 {

@@ -11,7 +11,7 @@ use lib.Dec.{lit<, eqb, leb, ltb}
 use lib.Arith.{lt-one}
 use lib.Pow.{pow_pos, pow-lt, pow_mono, pow-add, shl_lt, shl_exact, shr_lt, shr-shr, ones_lt, high_ones}
 use lib.Bits.{bit_and, bit_or, or_lt, and_le_l, and_high, and_step, and_shr, and_mod, or_add_and}
-use borrow.Author.Tests.{lt-ltb, ltb-true, ltb-false, leb-true, eq-eqb, ne_eqb, eqb-true, eqb-false}
+use borrow.Author.Tests.{lt-ltb, le-ltb, ltb-true, ltb-false, leb-true, eq-eqb, ne_eqb, eqb-true, eqb-false}
 use Rattle.words.specs.Word.{when◌then◌else◌, bit_of, is_set, rose, without, without_bits, without_bit, with_bit}
 
 -- a bit is 0 or 1
@@ -46,6 +46,10 @@ or_bit k w h =
     part zero p h = rw (one-mul, zero-mul, add-zero)
     part (suc zero) p h = rw (zero-mul, one-mul) (omega arith)
     part (suc (suc b)) p h = absurd (omega arith)
+
+pub set_past : (k w : ℕ) → 32 ≤ k → with_bit k w ≡ w
+unfolding with_bit when◌then◌else◌
+set_past k w h = rw (le-ltb k 32 h)
 
 -- what a mask takes and what it leaves make up the word
 and_not : (j a b : ℕ) → a < 2 ^ j → b < 2 ^ j → bit_and a b + bit_and a (2 ^ j - 1 - b) ≡ a

@@ -6,6 +6,7 @@ ghost use Rattle.std.specs.Prelude.{◌≡◌};
 ghost use Rattle.words.specs.Word.{when◌then◌else◌, bit_of, is_set, without, with_bit, without_bit, rose};
 
 // Bit k of w, 0 or 1.
+#[tactic(auto, using(crate::proofs::Laws::bit_past), unfolding(crate::specs::Word::bit_of))]
 pub fn bit(w: u32, k: u32) -> u32
     ensures { result ≡ bit_of k w }
 {
@@ -13,6 +14,7 @@ pub fn bit(w: u32, k: u32) -> u32
 }
 
 // Whether bit k of w is 1.
+#[tactic(auto, unfolding(crate::specs::Word::is_set))]
 pub fn has(w: u32, k: u32) -> bool
     ensures { result ≡ is_set k w }
 {
@@ -20,6 +22,7 @@ pub fn has(w: u32, k: u32) -> bool
 }
 
 // The bits of w that mask lacks. Of an input word and the previous one: the bits that have risen.
+#[tactic(auto, unfolding(crate::specs::Word::without))]
 pub fn masked_out(w: u32, mask: u32) -> u32
     ensures { result ≡ without mask w }
 {
@@ -27,6 +30,7 @@ pub fn masked_out(w: u32, mask: u32) -> u32
 }
 
 // Whether bit k has risen: 1 now and 0 before.
+#[tactic(auto, using(crate::proofs::Laws::risen_is))]
 pub fn has_risen(word: u32, previous: u32, k: u32) -> bool
     ensures { result ≡ rose k word previous }
 {
@@ -34,6 +38,7 @@ pub fn has_risen(word: u32, previous: u32, k: u32) -> bool
 }
 
 // w with bit k set.
+#[tactic(auto, using(crate::proofs::Laws::one_shl, crate::proofs::Laws::or_bit, crate::proofs::Laws::set_past))]
 pub fn with_bit(w: u32, k: u32) -> u32
     ensures { result ≡ with_bit k w }
 {
@@ -41,6 +46,7 @@ pub fn with_bit(w: u32, k: u32) -> u32
 }
 
 // w with bit k cleared.
+#[tactic(auto, using(crate::proofs::Laws::one_shl, crate::proofs::Laws::clear_bit, crate::proofs::Laws::clear_past))]
 pub fn without_bit(w: u32, k: u32) -> u32
     ensures { result ≡ without_bit k w }
 {

@@ -1,6 +1,5 @@
-use Rattle.std.proofs.Common.{◌∙◌, ap, subst, arith}
+use Rattle.std.proofs.Common.{ap, arith}
 use Rattle.std.specs.Prelude.{length}
-use Rattle.std.specs.Io.KnownBytes.{Appends}
 use Rattle.course.proofs.Pieces.{begin_exact, fill_exact}
 use Rattle.course.proofs.Written.{opening_written, more_written}
 use Rattle.course.proofs.print.Goals as goal
@@ -9,11 +8,10 @@ pub loop-bytes-init : goal.loop-bytes-init
 loop-bytes-init g c =
     let laws = g.met.C.Course.laws in
     let begun = c.begin-here.ensures in
-    let exact = begin_exact laws begun c.new-page.ensures.used (omega (arith, laws.room, ap length c.new-page.ensures.bytes)) in
-    opening_written begun (subst (Appends (g.W.Write.contents c.args.to.now) (g.W.Write.contents c.write_all.new.self)) (c.filled.ensures ∙ exact) c.in_ok-write_all.ensures.bytes)
+    let exact = begin_exact laws begun c.new-opening.ensures.used (omega (arith, laws.room, ap length c.new-opening.ensures.bytes)) in
+    opening_written begun (rw (c.filled.ensures, exact) at c.in_ok-write_all.ensures.bytes)
 
 pub loop-bytes-preserved : goal.loop-bytes-preserved
 loop-bytes-preserved g c =
-    let exact = fill_exact c.fill.ensures c.new-page-in-loop-bytes.ensures.used in
-    more_written c.loop-bytes.invariant c.fill.ensures.run.through
-    (subst (Appends (g.W.Write.contents c.loop-bytes.to) (g.W.Write.contents c.write_all-in-loop-bytes.new.self)) (c.filled-in-loop-bytes.ensures ∙ exact) c.in_ok-write_all-2.ensures.bytes)
+    let exact = fill_exact c.fill.ensures c.new-page.ensures.used in
+    more_written c.loop-bytes.invariant c.fill.ensures.run.through (rw (c.filled-in-loop-bytes.ensures, exact) at c.in_ok-write_all-2.ensures.bytes)

@@ -1,6 +1,6 @@
-use mathlib.Core.Path.{refl}
+use Rattle.std.proofs.Common.{rules}
 use Rattle.totals.proofs.Theorem.{claimed}
 use Rattle.totals.proofs.none.Goals as goal
 
 pub returns : goal.returns
-returns c = (refl, claimed)
+returns c = (search rules, claimed)

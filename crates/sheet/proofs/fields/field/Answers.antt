@@ -1,23 +1,15 @@
-use Prim.Native.Nat.{suc, ◌-◌}
-use mathlib.Core.Path.{◌≡◌, ◌∙◌, sym, ap}
-use native.Mathlib.Omega.{arith}
-use Rattle.sheet.specs.Split.{field_of}
-use Rattle.sheet.proofs.SplitLaws.{empty_field}
+use mathlib.Core.Path.{◌∙◌, refl}
+use lib.Dec.{eqb}
+use Rattle.std.proofs.Common.{rules}
+use Rattle.std.proofs.lemmas.Iterator.Consumers.{nth_from_yields_List}
+use Rattle.std.proofs.lemmas.Iterator.Splits.{YieldsList-from_slice_split}
+use Rattle.sheet.specs.Split.{comma}
+use Rattle.sheet.proofs.SplitLaws.{field_by, lent_or}
 use Rattle.sheet.proofs.fields.field.Goals as goal
-
-pub returns-then-rest-eq0 : goal.returns-then-rest-eq0
-returns-then-rest-eq0 c =
-    let l = c.loop-left in
-    empty_field l.rest.now l.left c.if-rest-eq0.true ∙ sym l.invariant
-
-pub loop-left-preserved : goal.loop-left-preserved
-loop-left-preserved c =
-    let l = c.loop-left in
-    let n : l.left ≡ suc (l.left - 1) = omega arith in
-    l.invariant ∙ ap (field_of l.rest.now) n ∙ sym (c.after-next.ensures (l.left - 1))
 
 pub returns : goal.returns
 returns c =
-    let l = c.loop-left in
-    let n : 0 ≡ l.left = omega arith in
-    c.first.ensures ∙ ap (field_of l.rest.now) n ∙ sym l.invariant
+    let a = c.args in
+    let s = c.split.ensures in
+    let parts = nth_from_yields_List c.nth.result _ a.k c.nth.ensures.ran (YieldsList-from_slice_split _ (λ b. eqb b comma) a.line.now s.rest s.done s.closure (λ x r q k. search rules)) in
+    lent_or c.nth.result _ _ _ c.unwrap_or.ensures refl parts ∙ field_by a.line.now a.k

@@ -1,6 +1,7 @@
+use mathlib.Core.Path.{◌∙◌}
 use native.Mathlib.Omega.{arith}
 use native.Mathlib.Numerals.{add-one}
-use Rattle.sheet.proofs.SplitLaws.{index_hit, index_miss, index_past}
+use Rattle.sheet.proofs.SplitLaws.{index_hit, index_miss, index_none}
 use Rattle.sheet.proofs.lines.index_from.Goals as goal
 
 pub returns-then-s-i : goal.returns-then-s-i
@@ -17,4 +18,5 @@ loop-i-preserved c =
 pub returns : goal.returns
 returns c =
     let a = c.args in
-    omega (arith, index_past a.b a.s.now c.loop-i.i c.loop-i-test.false)
+    let i = c.loop-i.i in
+    c.max.ensures ∙ index_none a.b a.s.now a.at i c.loop-i.invariant c.loop-i-test.false c.loop-i.auto.i-end

@@ -1,43 +1,37 @@
-use Prim.Native.Nat.{suc, ◌+◌, ◌-◌, ◌*◌}
-use mathlib.Core.Path.{sym, ◌∙◌}
+use mathlib.Core.Path.{◌∙◌, sym}
 use native.Mathlib.Omega.{arith}
 use native.Mathlib.Numerals.{add-one}
-use lib.ListN.{drop, get_or}
-use Rattle.sheet.proofs.NumberLaws.{digits_low, digits_high, digits_step, digits_past, value_step, value_past, value_grows, no_digits, too_large, in_range_lem}
+use Rattle.sheet.proofs.NumberLaws.{number_none, number_past, number_large, number_wrong, number_step, digit_is, digit_not}
 use Rattle.sheet.proofs.numbers.digits.Goals as goal
 
-pub returns-then-b-lt48 : goal.returns-then-b-lt48
-returns-then-b-lt48 c =
-    let s = c.args.field.now in
-    let l = c.loop-i in
-    let w = c.wide-b.ensures in
-    sym (no_digits s (l.invariant.2 ∙ digits_low s l.i c.loop-i-test.true (omega arith)))
+pub loop-b-init : goal.loop-b-init
+loop-b-init c = (omega arith, number_none c.args.field.now)
 
-pub returns-then-b-gt57 : goal.returns-then-b-gt57
-returns-then-b-gt57 c =
-    let s = c.args.field.now in
-    let l = c.loop-i in
-    let w = c.wide-b.ensures in
-    sym (no_digits s (l.invariant.2 ∙ digits_high s l.i c.loop-i-test.true (omega arith)))
+pub returns-in_err-checked_mul : goal.returns-in_err-checked_mul
+returns-in_err-checked_mul c =
+    let l = c.loop-b in
+    c.from_residual.ensures ∙ sym (l.invariant.1 ∙ number_large c.args.field.now l.b-index l.value (omega (arith, c.loop-b-test.true)) (omega (arith, c.in_err-checked_mul.ensures)))
 
-pub returns-then-value-gt-LARGEST : goal.returns-then-value-gt-LARGEST
-returns-then-value-gt-LARGEST c =
-    let s = c.args.field.now in
-    let l = c.loop-i in
-    let t = c.loop-i-test.true in
-    let w = c.wide-b.ensures in
-    sym (too_large s (omega (arith, l.invariant.3 ∙ value_step s l.i t l.value, value_grows (l.value * 10 + (get_or s l.i 0 - 48)) (drop (suc l.i) s), c.if-value-gt-LARGEST.true)))
+pub returns-in_err-digit : goal.returns-in_err-digit
+returns-in_err-digit c =
+    let l = c.loop-b in
+    c.from_residual-in_err-digit.ensures ∙ sym (l.invariant.1 ∙ number_wrong c.args.field.now l.b-index l.value (omega (arith, c.loop-b-test.true)) (digit_not _ c.in_err-digit.ensures))
 
-pub loop-i-preserved : goal.loop-i-preserved
-loop-i-preserved c =
-    let s = c.args.field.now in
-    let l = c.loop-i in
-    let t = c.loop-i-test.true in
-    let w = c.wide-b.ensures in
-    rw (add-one l.i, w) (omega arith, omega arith, l.invariant.2 ∙ digits_step s l.i t (omega arith) (omega arith), l.invariant.3 ∙ value_step s l.i t l.value)
+pub returns-in_err-value : goal.returns-in_err-value
+returns-in_err-value c =
+    let l = c.loop-b in
+    let d = digit_is _ _ c.in_ok-digit.ensures in
+    c.from_residual-in_err-value.ensures ∙ sym (l.invariant.1 ∙ number_large c.args.field.now l.b-index l.value (omega (arith, c.loop-b-test.true)) (omega (arith, c.in_err-value.ensures, d.1, c.in_ok-checked_mul.ensures)))
+
+pub loop-b-preserved : goal.loop-b-preserved
+loop-b-preserved c =
+    let l = c.loop-b in
+    let d = digit_is _ _ c.in_ok-digit.ensures in
+    let m = c.in_ok-checked_mul.ensures in
+    let a = c.in_ok-value.ensures in
+    rw (add-one l.b-index, a.1, m.1, d.1) (omega arith, l.invariant.1 ∙ number_step c.args.field.now l.b-index l.value (omega (arith, c.loop-b-test.true)) d.0)
 
 pub returns : goal.returns
 returns c =
-    let s = c.args.field.now in
-    let l = c.loop-i in
-    sym (in_range_lem s l.value (l.invariant.2 ∙ digits_past s l.i c.loop-i-test.false) (l.invariant.3 ∙ value_past s l.i c.loop-i-test.false l.value) l.invariant.1)
+    let l = c.loop-b in
+    sym (l.invariant.1 ∙ number_past c.args.field.now l.b-index l.value (omega (arith, c.loop-b-test.false)) l.invariant.0)

@@ -5,5 +5,4 @@ use Rattle.report.proofs.page.Page.store_row.Goals as goal
 pub returns : goal.returns
 returns c =
     rw (row_parts c.args.row) (puts_then c.store.ensures.puts (puts_then c.store_field.ensures.puts (puts_then c.store_field-2.ensures.puts
-    (puts_then c.store_state.ensures.puts (puts_then c.store_state-2.ensures.puts (puts_then c.store_state-3.ensures.puts
-    (puts_then c.store_state-4.ensures.puts (puts_then c.store_state-5.ensures.puts (puts_then c.store_field-3.ensures.puts c.store-2.ensures.puts)))))))))
+    (puts_then c.store_states.ensures.puts (puts_then c.store_field-3.ensures.puts c.store-2.ensures.puts)))))
