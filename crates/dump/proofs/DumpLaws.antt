@@ -3,11 +3,11 @@
 use Rattle.std.proofs.lemmas.Bool.Decides.{nat_tests}
 use Prim.Native.Nat.{ℕ, ◌+◌, ◌*◌, ◌<◌, ◌≤◌}
 use mathlib.Core.Path.{◌≡◌, refl, sym, ap, ◌∙◌}
-use mathlib.Core.Bool.{Bool, true, false, not}
+use mathlib.Core.Bool.{false}
 use mathlib.Core.List.{List, [], ◌∷◌, ◌++◌, append_assoc, append-nil}
 use native.Mathlib.Omega.{arith}
 use native.Mathlib.Decide.{dec_le}
-use lib.Dec.{eqb, ltb}
+use lib.Dec.{ltb}
 use lib.ListN.{length, drop}
 use Rattle.words.specs.Word.{when◌then◌else◌}
 use Rattle.rules.specs.declared.Motor.{Motor}
@@ -80,15 +80,7 @@ clock_late time r = grind (arith)
 pub once_scanned : (t : State) (rs : List Request) → 0 < t.scans → motors_before_scans t rs ≡ t.motors
 unfolding motors_before_scans is_scan refusal_for request_refusal changed with_word with_words when◌then◌else◌
 once_scanned t [] h = refl
-once_scanned t (M number ops1 ops2 w u ∷ rs) h =
-    before_refused t (M number ops1 ops2 w u) rs (λ e. omega (arith, motor_first (length t.motors) t.scans number (record { ops1 = ops1; ops2 = ops2; w = w; u = u }) e, h))
-once_scanned t (I number word ∷ rs) h = go (not (eqb (refusal_for t (I number word)) 0)) (once_scanned (changed t (I number word)) rs h)
-  where
-    go : (b : Bool) → motors_before_scans (changed t (I number word)) rs ≡ t.motors → (when b then t.motors else motors_before_scans (changed t (I number word)) rs) ≡ t.motors
-    go true e = refl
-    go false e = e
-once_scanned t (S period ∷ rs) h = refl
-once_scanned t (Refused ∷ rs) h = refl
+once_scanned t (r ∷ rs) h = grind (arith, nat_tests, motor_first, once_scanned (changed t r) rs)
 
 pub scan_counted : (t : State) (period : ℕ) → 0 < (changed t (S period)).scans
 unfolding changed with_scan next_number

@@ -1,4 +1,5 @@
 -- The samples of a dump are the outputs that the motors' histories give: at each time those after the scans not later than it. Assumes nothing.
+use Rattle.std.proofs.lemmas.Bool.Decides.{nat_tests}
 use Prim.Native.Nat.{ℕ, ◌+◌, ◌<◌, ◌≤◌}
 use mathlib.Core.Path.{◌≡◌, refl, sym, ap, ◌∙◌}
 use mathlib.Core.Bool.{Bool, true, false}
@@ -6,7 +7,7 @@ use mathlib.Core.List.{List, [], ◌∷◌, ◌++◌, map}
 use native.Mathlib.Omega.{arith}
 use lib.Dec.{leb}
 use lib.ListN.{length, length-map}
-use borrow.Author.Tests.{eq-eqb, ne_eqb, le-leb, lt-leb, leb-true, leb-false}
+use borrow.Author.Tests.{le-leb, lt-leb, leb-true, leb-false}
 use Rattle.words.specs.Word.{when◌then◌else◌}
 use Rattle.rules.specs.Scans.{Input}
 use Rattle.rules.proofs.Tables.{accepted as table-in-limits}
@@ -95,12 +96,12 @@ module _ (hs : List History) (t : State) (time period : ℕ) (k : Standing hs t 
 
 accepted_first : (t : State) (r : Request) (rs : List Request) → refusal_for t r ≡ 0 → accepted_from t (r ∷ rs) ≡ r ∷ accepted_from (changed t r) rs
 unfolding accepted_from when◌then◌else◌
-accepted_first t r rs h = rw (eq-eqb (refusal_for t r) 0 h)
+accepted_first t r rs h = grind (arith, nat_tests)
 
 histories_first : (hs : List History) (t : State) (r : Request) (rs : List Request) → refusal_for t r ≡ 0
     → histories_from hs t (r ∷ rs) ≡ histories_from (histories_after hs t r) (changed t r) rs
 unfolding histories_from when◌then◌else◌
-histories_first hs t r rs h = rw (eq-eqb (refusal_for t r) 0 h, is-changed t r h)
+histories_first hs t r rs h = grind (arith, nat_tests, is-changed)
 
 module _ (at : ℕ) where
   unfoldable pub outputs_from : List History → State → List Request → List Bool
@@ -116,7 +117,7 @@ module _ (at : ℕ) where
   outputs_refused : (hs : List History) (t : State) (r : Request) (rs : List Request) → (refusal_for t r ≡ 0 → ⊥)
       → outputs_from hs t (r ∷ rs) ≡ signals_of (map (record_at at) hs)
   unfolding outputs_from accepted_from histories_from when◌then◌else◌
-  outputs_refused hs t r rs h = rw (ne_eqb (refusal_for t r) 0 h)
+  outputs_refused hs t r rs h = grind (arith, nat_tests)
 
   -- the first of some requests, a scan
   scan_first : (hs : List History) (t : State) (time period : ℕ) (rs : List Request) (before : List Bool) → refusal_for t (S period) ≡ 0 → Standing hs t time

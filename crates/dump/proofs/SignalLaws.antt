@@ -1,6 +1,7 @@
 -- Laws of the signals of motors, one motor after another, by the states of their outputs. Assumes nothing.
-use Rattle.std.proofs.Common.{ℕ, zero, suc, ◌+◌, ◌-◌, ◌*◌, ◌<◌, ◌≤◌, ◌≡◌, refl, sym, ap, ◌∙◌, Bool, true, false, List, [], ◌∷◌, ◌++◌, append_assoc, length, arith}
+use Rattle.std.proofs.Common.{ℕ, suc, ◌+◌, ◌-◌, ◌*◌, ◌<◌, ◌≤◌, ◌≡◌, refl, sym, ap, ◌∙◌, Bool, true, false, List, [], ◌∷◌, ◌++◌, append_assoc, length, arith}
 use Rattle.std.specs.Prelude.{◌||◌, eqb, min, take, drop, set, get_or}
+use Rattle.std.proofs.lemmas.Grind.{common_steps}
 use Rattle.std.specs.List.{zip, list_any}
 use native.Mathlib.Numerals.{add-one}
 use lib.ListN.{length-append, length-map, get_or-map, drop_of_length-le}
@@ -110,25 +111,19 @@ module _ {from here : Page} {whole : List ℕ} (i j : ℕ) where
 -- ---- whether there are any
 
 no_cons : {b : ℕ} {l : List ℕ} → b ∷ l ≡ [] → ⊥
-no_cons e = let z : ◌≡◌ {A = ℕ} 0 1 = cc in omega arith
+no_cons = grind (arith, common_steps)
 
 -- of two runs of lines
 tells_both : (l m : List ℕ) (a b : Bool) → Tells l a → Tells m b → Tells (l ++ m) (a || b)
 tells_both [] m true b h k = absurd (h refl)
+tells_both [] m false true h k = k
+tells_both [] m false false h k = k
 tells_both (x ∷ l) m true b h k = no_cons
-tells_both l m false b h k = rw h (alone b k)
-  where
-    alone : (c : Bool) → Tells m c → Tells ([] ++ m) c
-    alone true g = g
-    alone false g = g
+tells_both (x ∷ l) m false b h k = absurd (no_cons h)
 
 tells_change : (code : List ℕ) (v w : Bool) → Tells (change_line code v w) (differs v w)
 unfolding change_line value_line word_line joined when◌then◌else◌
-tells_change code v w = go (differs v w)
-  where
-    go : (b : Bool) → Tells (when b then value_line code w else []) b
-    go true = no_cons
-    go false = refl
+tells_change code v w = grind (arith, common_steps)
 
 pub tells_changes : (i : ℕ) (ss ts : List ℕ) → Tells (changes_from i (state_signals ss) (state_signals ts)) (list_any (λ (p : ℕ × ℕ). motor_differs p.0 p.1) (zip ss ts))
 unfolding changes_from state_signals motor_differs
