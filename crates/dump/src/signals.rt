@@ -49,7 +49,8 @@ fn put_change(page: &mut Page, code: u8, before: bool, after: bool)
     }
 }
 
-// The states of the motors' outputs, as many as are in use. The signals go by them, since arrays of records are dear to hand on.
+// The states of the motors' outputs, as many as are in use, in fixed memory, since there is no heap here. The signals go by them, since
+// arrays of records are dear to hand on.
 #[derive(Drop)]
 pub struct Outputs {
     states: [u32; MOST_MOTORS],
