@@ -38,17 +38,11 @@ use Rattle.dump.proofs.SignalLaws.{first_length, scan_length}
 
 pub same_moment : (b : Bench) (at next time : ℕ) (r : Request) → moment_after next (bench_at at b time) r ≡ moment next (changed (view_of b) r) (clock_after time r)
 unfolding changed with_motor with_word with_words with_scan
-same_moment b at next time (M number ops1 ops2 w u) = refl
-same_moment b at next time (I number word) = refl
-same_moment b at next time (S period) = refl
-same_moment b at next time Refused = refl
+same_moment b at next time r = grind (arith)
 
 pub same_refusal : (b : Bench) (at time : ℕ) (r : Request) → refusal_for (state_of (bench_at at b time)) r ≡ refusal_for (view_of b) r
 unfolding refusal_for scan_refusal
-same_refusal b at time (M number ops1 ops2 w u) = refl
-same_refusal b at time (I number word) = refl
-same_refusal b at time (S period) = refl
-same_refusal b at time Refused = refl
+same_refusal b at time r = grind (arith)
 
 -- ---- one line, or the end
 
@@ -65,29 +59,26 @@ quiet file s (I number word) next at h n = (refl, refl)
 quiet file s (S period) next at h n = absurd (n period next at (same_refusal s.bench s.at s.time (S period) ∙ h))
 quiet file s Refused next at h n = (refl, refl)
 
-module _ {file : List ℕ} {s t : Recording} {page : Page} where
-  -- the dump ends, at the end of the file or at a refused line
-  module _ {after : Page} (put : Puts page (first_text s.bench.scans (moment_of s).motors) after)
-      (past : moment_of t ≡ past_end file (moment_of s)) (few : length (moment_of s).motors ≤ 32) where
-    pub at_end : s.at ≤ length file → next_at file s.at ≡ None → Advance recorded file s page t after
-    at_end l found =
-        record {
-          piece = first_text s.bench.scans (moment_of s).motors;
-          through = rw past (ended none l found);
-          put = put;
-          short = omega (arith, first_length s.bench.scans (moment_of s).motors few);
-          further = omega (arith, ap (λ (p : Moment). p.at) past);
-        }
+-- the dump ends, at the end of the file or at a refused line
+module _ {file : List ℕ} {s t : Recording} {page after : Page} (put : Puts page (first_text s.bench.scans (moment_of s).motors) after)
+    (past : moment_of t ≡ past_end file (moment_of s)) (few : length (moment_of s).motors ≤ 32) where
+  ends : Through lines file (moment_of s) (first_text s.bench.scans (moment_of s).motors) (past_end file (moment_of s)) → s.at ≤ length file → Advance recorded file s page t after
+  ends through l =
+      record {
+        piece = first_text s.bench.scans (moment_of s).motors;
+        through = rw past through;
+        put = put;
+        short = omega (arith, first_length s.bench.scans (moment_of s).motors few);
+        further = omega (arith, ap (λ (p : Moment). p.at) past);
+      }
 
-    pub stops : {q : Request} {next : ℕ} → next_at file s.at ≡ Some (q, next) → (refusal_for (view_of s.bench) q ≡ 0 → ⊥) → Advance recorded file s page t after
-    stops {q} {next} found h =
-        record {
-          piece = first_text s.bench.scans (moment_of s).motors;
-          through = rw past (refused none found (λ e. h (sym (same_refusal s.bench s.at s.time q) ∙ e)));
-          put = put;
-          short = omega (arith, first_length s.bench.scans (moment_of s).motors few);
-          further = let line = taken file s.at q next found in omega (arith, ap (λ (p : Moment). p.at) past, line.further, line.within);
-        }
+  pub at_end : s.at ≤ length file → next_at file s.at ≡ None → Advance recorded file s page t after
+  at_end l found = ends (ended none l found) l
+
+  pub stops : {q : Request} {next : ℕ} → next_at file s.at ≡ Some (q, next) → (refusal_for (view_of s.bench) q ≡ 0 → ⊥) → Advance recorded file s page t after
+  stops {q} {next} found h =
+      let line = taken file s.at q next found in
+      ends (refused none found (λ e. h (sym (same_refusal s.bench s.at s.time q) ∙ e))) (omega (arith, line.further, line.within))
 
 -- a line that is accepted and is no scan
 pub goes_on : {file : List ℕ} {s : Recording} {page : Page} {q : Request} {next : ℕ} (b : Bench) → next_at file s.at ≡ Some (q, next) → NoScan recorded file s → refusal_for (view_of s.bench) q ≡ 0
@@ -170,7 +161,6 @@ after_scan s ms period next =
       at = next;
       time = capped (s.time + period);
     }
-
 
 -- the motors in use are scanned as a table, and those past them stay
 pub in_use_scanned : (b : Bench) (period : ℕ) {held : ℕ} {ms : List Motor} → held ≡ min b.count most_motors

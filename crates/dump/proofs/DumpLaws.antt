@@ -1,13 +1,14 @@
 -- Laws of the dump: what its first request makes of it, what is left to put from a moment on, and what lines that were taken leave. Assumes
 -- nothing.
+use Rattle.std.proofs.lemmas.Bool.Decides.{nat_tests}
 use Prim.Native.Nat.{ℕ, ◌+◌, ◌*◌, ◌<◌, ◌≤◌}
 use mathlib.Core.Path.{◌≡◌, refl, sym, ap, ◌∙◌}
-use mathlib.Core.Bool.{Bool, true, false, not, ◌||◌}
+use mathlib.Core.Bool.{false}
 use mathlib.Core.List.{List, [], ◌∷◌, ◌++◌, append_assoc, append-nil}
 use native.Mathlib.Omega.{arith}
-use lib.Dec.{eqb, ltb}
+use native.Mathlib.Decide.{dec_le}
+use lib.Dec.{ltb}
 use lib.ListN.{length, drop}
-use borrow.Author.Tests.{eq-eqb, ne_eqb, lt-ltb, le-ltb}
 use Rattle.words.specs.Word.{when◌then◌else◌}
 use Rattle.rules.specs.declared.Motor.{Motor}
 use Rattle.rules.proofs.Tables.{accepted as table-in-limits}
@@ -26,30 +27,34 @@ use Rattle.course.specs.Through.{Through}
 use Rattle.course.specs.Through.Through.{none, accepted, refused, ended}
 use Rattle.dump.specs.Advance.{Moment, moment, state_of, past_end, clock_after, moment_after, first_text, scan_text, added, lines}
 
+-- a request is accepted or refused
+pub by_refusal : (t : State) (r : Request) {P : Type 0} → (refusal_for t r ≡ 0 → P) → ((refusal_for t r ≡ 0 → ⊥) → P) → P
+by_refusal t r {P} a b = go (dec_le (refusal_for t r) 0)
+  where
+    go : Dec (refusal_for t r ≤ 0) → P
+    go (yes l) = a (omega (arith, l))
+    go (no f) = b (λ e. f (omega (arith, e)))
+
 -- ---- the first of some requests
 
 module _ (t : State) (r : Request) (rs : List Request) where
   module _ (h : refusal_for t r ≡ 0) where
     pub samples_accepted : (time : ℕ) → samples_from time t (r ∷ rs) ≡ sample_of (time_after time r) (changed t r) r ++ samples_from (time_after time r) (changed t r) rs
     unfolding samples_from when◌then◌else◌
-    samples_accepted time = rw (eq-eqb (refusal_for t r) 0 h)
+    samples_accepted time = grind (arith, nat_tests)
 
     pub before_accepted : is_scan r ≡ false → motors_before_scans t (r ∷ rs) ≡ motors_before_scans (changed t r) rs
     unfolding motors_before_scans when◌then◌else◌
-    before_accepted e = rw (e, eq-eqb (refusal_for t r) 0 h)
+    before_accepted e = grind (arith, nat_tests)
 
   module _ (h : refusal_for t r ≡ 0 → ⊥) where
     pub samples_refused : (time : ℕ) → samples_from time t (r ∷ rs) ≡ []
     unfolding samples_from when◌then◌else◌
-    samples_refused time = rw (ne_eqb (refusal_for t r) 0 h)
+    samples_refused time = grind (arith, nat_tests)
 
     pub before_refused : motors_before_scans t (r ∷ rs) ≡ t.motors
     unfolding motors_before_scans when◌then◌else◌
-    before_refused = go (is_scan r)
-      where
-        go : (b : Bool) → (when b || not (eqb (refusal_for t r) 0) then t.motors else motors_before_scans (changed t r) rs) ≡ t.motors
-        go true = refl
-        go false = rw (ne_eqb (refusal_for t r) 0 h)
+    before_refused = grind (arith, nat_tests)
 
 pub before_scan : (t : State) (period : ℕ) (rs : List Request) → motors_before_scans t (S period ∷ rs) ≡ t.motors
 unfolding motors_before_scans is_scan when◌then◌else◌
@@ -60,41 +65,22 @@ before_scan t period rs = refl
 -- no period is longer than 10,000
 pub time_goes : (time : ℕ) (t : State) (r : Request) → refusal_for t r ≡ 0 → (time ≤ time_after time r) × (time_after time r ≤ time + 10000)
 unfolding time_after refusal_for scan_refusal
-time_goes time t (M number ops1 ops2 w u) h = (omega arith, omega arith)
-time_goes time t (I number word) h = (omega arith, omega arith)
-time_goes time t (S period) h =
-    let l = (period_limits period (table-in-limits t.motors t.words period h).period).1 in
-    (omega arith, omega (arith, l))
-time_goes time t Refused h = (omega arith, omega arith)
+time_goes time t r h = grind (arith, period_limits, table-in-limits)
 
 -- a sum of 32 bits is not capped, and capping only lowers it
 clock_exact : (time : ℕ) (r : Request) → time_after time r ≤ 4294967295 → clock_after time r ≡ time_after time r
 unfolding clock_after time_after capped
-clock_exact time (M number ops1 ops2 w u) h = refl
-clock_exact time (I number word) h = refl
-clock_exact time (S period) h = omega arith
-clock_exact time Refused h = refl
+clock_exact time r h = grind (arith)
 
 clock_late : (time : ℕ) (r : Request) → clock_after time r ≤ time_after time r
 unfolding clock_after time_after capped
-clock_late time (M number ops1 ops2 w u) = omega arith
-clock_late time (I number word) = omega arith
-clock_late time (S period) = omega arith
-clock_late time Refused = omega arith
+clock_late time r = grind (arith)
 
 -- once a scan was accepted, no motor is added
 pub once_scanned : (t : State) (rs : List Request) → 0 < t.scans → motors_before_scans t rs ≡ t.motors
 unfolding motors_before_scans is_scan refusal_for request_refusal changed with_word with_words when◌then◌else◌
 once_scanned t [] h = refl
-once_scanned t (M number ops1 ops2 w u ∷ rs) h =
-    before_refused t (M number ops1 ops2 w u) rs (λ e. omega (arith, motor_first (length t.motors) t.scans number (record { ops1 = ops1; ops2 = ops2; w = w; u = u }) e, h))
-once_scanned t (I number word ∷ rs) h = go (not (eqb (refusal_for t (I number word)) 0)) (once_scanned (changed t (I number word)) rs h)
-  where
-    go : (b : Bool) → motors_before_scans (changed t (I number word)) rs ≡ t.motors → (when b then t.motors else motors_before_scans (changed t (I number word)) rs) ≡ t.motors
-    go true e = refl
-    go false e = e
-once_scanned t (S period ∷ rs) h = refl
-once_scanned t (Refused ∷ rs) h = refl
+once_scanned t (r ∷ rs) h = grind (arith, nat_tests, motor_first, once_scanned (changed t r) rs)
 
 pub scan_counted : (t : State) (period : ℕ) → 0 < (changed t (S period)).scans
 unfolding changed with_scan next_number
@@ -108,24 +94,15 @@ with_totals t us = record { motors = t.motors; totals = us; words = t.words; sca
 module _ (t : State) (us : List Totals) where
   refusal_alike : (r : Request) → refusal_for (with_totals t us) r ≡ refusal_for t r
   unfolding refusal_for scan_refusal
-  refusal_alike (M number ops1 ops2 w u) = refl
-  refusal_alike (I number word) = refl
-  refusal_alike (S period) = refl
-  refusal_alike Refused = refl
+  refusal_alike r = grind (arith)
 
   changed_alike : (r : Request) → changed (with_totals t us) r ≡ with_totals (changed t r) (changed (with_totals t us) r).totals
   unfolding changed with_motor with_word with_words with_scan
-  changed_alike (M number ops1 ops2 w u) = refl
-  changed_alike (I number word) = refl
-  changed_alike (S period) = refl
-  changed_alike Refused = refl
+  changed_alike r = grind (arith)
 
   sample_alike : (time : ℕ) (r : Request) → sample_of time (with_totals t us) r ≡ sample_of time t r
   unfolding sample_of
-  sample_alike time (M number ops1 ops2 w u) = refl
-  sample_alike time (I number word) = refl
-  sample_alike time (S period) = refl
-  sample_alike time Refused = refl
+  sample_alike time r = grind (arith)
 
 pub samples_alike : (time : ℕ) (t : State) (us : List Totals) (rs : List Request) → samples_from time (with_totals t us) rs ≡ samples_from time t rs
 unfolding samples_from
@@ -161,7 +138,7 @@ left_refused time t r rs h = rw (before_refused t r rs h, samples_refused t r rs
 -- header and #0 are put once
 first_once : (scans : ℕ) (ms : List Motor) → 0 < scans → first_text scans ms ≡ []
 unfolding first_text when◌then◌else◌
-first_once scans ms h = rw (ne_eqb scans 0 (λ e. omega arith))
+first_once scans ms h = grind (arith, nat_tests)
 
 left_scan : (time : ℕ) (t : State) (period : ℕ) (rs : List Request) → refusal_for t (S period) ≡ 0
     → left_of time t (S period ∷ rs)
@@ -176,12 +153,8 @@ left_scan time t period rs h =
 left_accepted : (p : Moment) (r : Request) (rs : List Request) → refusal_for (state_of p) r ≡ 0
     → left_of p.time (state_of p) (r ∷ rs) ≡ added p (time_after p.time r) r ++ left_of (time_after p.time r) (changed (state_of p) r) rs
 unfolding left_of added time_after sample_of is_scan changed with_motor with_word with_words
-left_accepted p (M number ops1 ops2 w u) rs h =
-    let r = M number ops1 ops2 w u in
-    rw (before_accepted (state_of p) r rs h refl, samples_accepted (state_of p) r rs h p.time)
-left_accepted p (I number word) rs h =
-    let r = I number word in
-    rw (before_accepted (state_of p) r rs h refl, samples_accepted (state_of p) r rs h p.time)
+left_accepted p (M number ops1 ops2 w u) rs h = rw (before_accepted (state_of p) (M number ops1 ops2 w u) rs h refl, samples_accepted (state_of p) (M number ops1 ops2 w u) rs h p.time)
+left_accepted p (I number word) rs h = rw (before_accepted (state_of p) (I number word) rs h refl, samples_accepted (state_of p) (I number word) rs h p.time)
 left_accepted p (S period) rs h = left_scan p.time (state_of p) period rs h
 left_accepted p Refused rs h = absurd (not_accepted (state_of p) Refused h refl)
 
@@ -192,11 +165,11 @@ rest_from file p = when ltb (length file) p.at then [] else left_of p.time (stat
 
 pub rest_past : (file : List ℕ) (p : Moment) → length file < p.at → rest_from file p ≡ []
 unfolding rest_from when◌then◌else◌
-rest_past file p h = rw (lt-ltb (length file) p.at h)
+rest_past file p h = grind (arith, nat_tests)
 
 pub rest_from_lem : (file : List ℕ) (p : Moment) → p.at ≤ length file → rest_from file p ≡ left_of p.time (state_of p) (requests_of (drop p.at file))
 unfolding rest_from when◌then◌else◌
-rest_from_lem file p h = rw (le-ltb (length file) p.at h)
+rest_from_lem file p h = grind (arith, nat_tests)
 
 module _ (file : List ℕ) (p : Moment) where
   rest_end : p.at ≤ length file → length file ≤ p.at → rest_from file p ≡ first_text p.scans p.motors

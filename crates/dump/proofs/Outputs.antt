@@ -1,12 +1,13 @@
 -- The samples of a dump are the outputs that the motors' histories give: at each time those after the scans not later than it. Assumes nothing.
+use Rattle.std.proofs.lemmas.Bool.Decides.{nat_tests}
 use Prim.Native.Nat.{ℕ, ◌+◌, ◌<◌, ◌≤◌}
 use mathlib.Core.Path.{◌≡◌, refl, sym, ap, ◌∙◌}
 use mathlib.Core.Bool.{Bool, true, false}
 use mathlib.Core.List.{List, [], ◌∷◌, ◌++◌, map}
 use native.Mathlib.Omega.{arith}
-use lib.Dec.{eqb, leb}
+use lib.Dec.{leb}
 use lib.ListN.{length, length-map}
-use borrow.Author.Tests.{eq-eqb, ne_eqb, eqb-true, eqb-false, le-leb, lt-leb, leb-true, leb-false}
+use borrow.Author.Tests.{le-leb, lt-leb, leb-true, leb-false}
 use Rattle.words.specs.Word.{when◌then◌else◌}
 use Rattle.rules.specs.Scans.{Input}
 use Rattle.rules.proofs.Tables.{accepted as table-in-limits}
@@ -22,7 +23,7 @@ use Rattle.vcd.specs.Text.{Sample}
 use Rattle.vcd.specs.Expected.{signals_at}
 use Rattle.dump.specs.Dump.{signals_of, time_after, sample_of, samples_from, is_scan, motors_before_scans}
 use Rattle.dump.specs.Claim.{up_to, record_at}
-use Rattle.dump.proofs.DumpLaws.{samples_accepted, samples_refused, before_accepted, before_refused, before_scan, scan_counted}
+use Rattle.dump.proofs.DumpLaws.{samples_accepted, samples_refused, before_accepted, before_refused, by_refusal, before_scan, scan_counted}
 
 -- ---- the scans of histories up to a time
 
@@ -95,12 +96,12 @@ module _ (hs : List History) (t : State) (time period : ℕ) (k : Standing hs t 
 
 accepted_first : (t : State) (r : Request) (rs : List Request) → refusal_for t r ≡ 0 → accepted_from t (r ∷ rs) ≡ r ∷ accepted_from (changed t r) rs
 unfolding accepted_from when◌then◌else◌
-accepted_first t r rs h = rw (eq-eqb (refusal_for t r) 0 h)
+accepted_first t r rs h = grind (arith, nat_tests)
 
 histories_first : (hs : List History) (t : State) (r : Request) (rs : List Request) → refusal_for t r ≡ 0
     → histories_from hs t (r ∷ rs) ≡ histories_from (histories_after hs t r) (changed t r) rs
 unfolding histories_from when◌then◌else◌
-histories_first hs t r rs h = rw (eq-eqb (refusal_for t r) 0 h, is-changed t r h)
+histories_first hs t r rs h = grind (arith, nat_tests, is-changed)
 
 module _ (at : ℕ) where
   unfoldable pub outputs_from : List History → State → List Request → List Bool
@@ -116,7 +117,7 @@ module _ (at : ℕ) where
   outputs_refused : (hs : List History) (t : State) (r : Request) (rs : List Request) → (refusal_for t r ≡ 0 → ⊥)
       → outputs_from hs t (r ∷ rs) ≡ signals_of (map (record_at at) hs)
   unfolding outputs_from accepted_from histories_from when◌then◌else◌
-  outputs_refused hs t r rs h = rw (ne_eqb (refusal_for t r) 0 h)
+  outputs_refused hs t r rs h = grind (arith, nat_tests)
 
   -- the first of some requests, a scan
   scan_first : (hs : List History) (t : State) (time period : ℕ) (rs : List Request) (before : List Bool) → refusal_for t (S period) ≡ 0 → Standing hs t time
@@ -152,14 +153,9 @@ module _ (at : ℕ) where
       → signals_at (signals_of (map (record_at at) hs)) (samples_from time t rs) at ≡ outputs_from hs t rs
   unfolding samples_from signals_at outputs_from accepted_from histories_from
   after_scans hs t time [] k n = refl
-  after_scans hs t time (r ∷ rs) k n = go (eqb (refusal_for t r) 0) refl (after_scans (histories_after hs t r) (changed t r) (time_after time r) rs)
-    where
-      go : (b : Bool) → eqb (refusal_for t r) 0 ≡ b
-          → (Standing (histories_after hs t r) (changed t r) (time_after time r) → 0 < (changed t r).scans
-          → signals_at (signals_of (map (record_at at) (histories_after hs t r))) (samples_from (time_after time r) (changed t r) rs) at ≡ outputs_from (histories_after hs t r) (changed t r) rs)
-          → signals_at (signals_of (map (record_at at) hs)) (samples_from time t (r ∷ rs)) at ≡ outputs_from hs t (r ∷ rs)
-      go true e later = after_first hs t time r rs (eqb-true _ _ e) k n later
-      go false e later = rw (samples_refused t r rs (eqb-false _ _ e) time, outputs_refused hs t r rs (eqb-false _ _ e))
+  after_scans hs t time (r ∷ rs) k n =
+      by_refusal t r (λ h. after_first hs t time r rs h k n (after_scans (histories_after hs t r) (changed t r) (time_after time r) rs))
+      (λ h. rw (samples_refused t r rs h time, outputs_refused hs t r rs h))
 
   -- ---- before the first scan the time is 0
 
@@ -189,15 +185,9 @@ module _ (at : ℕ) where
       → signals_at (signals_of (motors_before_scans t rs)) (samples_from 0 t rs) at ≡ outputs_from hs t rs
   unfolding motors_before_scans samples_from signals_at outputs_from accepted_from histories_from
   from_first hs t [] k = stands hs t k
-  from_first hs t (r ∷ rs) k = go (eqb (refusal_for t r) 0) refl (from_first (histories_after hs t r) (changed t r) rs)
-    where
-      go : (b : Bool) → eqb (refusal_for t r) 0 ≡ b
-          → (Standing (histories_after hs t r) (changed t r) 0
-          → signals_at (signals_of (motors_before_scans (changed t r) rs)) (samples_from 0 (changed t r) rs) at ≡ outputs_from (histories_after hs t r) (changed t r) rs)
-          → signals_at (signals_of (motors_before_scans t (r ∷ rs))) (samples_from 0 t (r ∷ rs)) at ≡ outputs_from hs t (r ∷ rs)
-      go true e later = before_first hs t r rs (eqb-true _ _ e) k later
-      go false e later =
-          rw (before_refused t r rs (eqb-false _ _ e), samples_refused t r rs (eqb-false _ _ e) 0, outputs_refused hs t r rs (eqb-false _ _ e)) (stands hs t k)
+  from_first hs t (r ∷ rs) k =
+      by_refusal t r (λ h. before_first hs t r rs h k (from_first (histories_after hs t r) (changed t r) rs))
+      (λ h. rw (before_refused t r rs h, samples_refused t r rs h 0, outputs_refused hs t r rs h) (stands hs t k))
 
   -- From the empty bench on, what is recorded are the outputs that the histories give.
   pub samples_outputs : (rs : List Request) → signals_at (signals_of (motors_before_scans empty_state rs)) (samples_from 0 empty_state rs) at ≡ outputs_from [] empty_state rs

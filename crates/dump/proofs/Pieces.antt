@@ -4,13 +4,12 @@ use Rattle.std.specs.Prelude.{ltb}
 use borrow.Author.Tests.{le-ltb}
 use Rattle.words.specs.Word.{when◌then◌else◌}
 use Rattle.sheet.proofs.RequestLaws.{taken}
-use Rattle.report.specs.declared.page.Page.{Page}
 use Rattle.interpreter.specs.State.{empty_state, too_long}
 use Rattle.vcd.specs.Text.{recording_text}
 use Rattle.course.specs.Through.{Through}
 use Rattle.course.specs.Through.Through.{none, accepted, refused, ended}
-use Rattle.course.specs.Walk.{Begin, Leads}
-use Rattle.course.proofs.Pieces.{Calls, together, calls_text}
+use Rattle.course.specs.Walk.{Leads}
+use Rattle.course.proofs.Pieces.{Calls, together, all_through}
 use Rattle.dump.specs.Dump.{opening, requests_dump, dump_of}
 use Rattle.dump.specs.Laws.{dump_long}
 use Rattle.dump.specs.Advance.{Moment, moment, moment_of, lines, first_text, Begins, recorded}
@@ -44,6 +43,5 @@ whole {file} {c} {piece} b d through past = go (ltb 65536 (length file)) refl b.
         dump_rest file few ∙ ap (rest_from file) (sym start) ∙ through_rest early few through
         ∙ ap (λ (l : List ℕ). piece ++ l) (rest_past file (moment_of d) past) ∙ append-nil piece
 
-pub calls_dump : {file : List ℕ} {c : Recording} {page after : Page} {ps : List (List ℕ)} → Begin recorded file c page after → Calls recorded file c ps
-    → dump_of file ≡ together ps
-calls_dump b calls = calls_text b calls
+pub calls_dump : {file : List ℕ} {c : Recording} {ps : List (List ℕ)} → Begins file c → Calls recorded file c ps → dump_of file ≡ together ps
+calls_dump b calls = let (d, through, past) = all_through calls in whole b d through past

@@ -2,12 +2,10 @@
 -- histories give them. Assumes nothing.
 use Prim.Native.Nat.{ℕ, ◌+◌, ◌*◌, ◌<◌, ◌≤◌}
 use mathlib.Core.Path.{◌≡◌, refl, ap}
-use mathlib.Core.Bool.{Bool, true, false}
 use mathlib.Core.List.{List, [], ◌∷◌, ◌++◌, map}
 use native.Mathlib.Omega.{arith}
-use lib.Dec.{eqb}
 use lib.ListN.{length, length-map}
-use borrow.Author.Tests.{eqb-true, eqb-false, le-ltb, ltb-false}
+use borrow.Author.Tests.{le-ltb, ltb-false}
 use Rattle.words.specs.Word.{when◌then◌else◌}
 use Rattle.rules.specs.declared.Motor.{Motor}
 use Rattle.rules.proofs.Tables.{length_after, accepted as table-in-limits}
@@ -26,7 +24,7 @@ use Rattle.vcd.proofs.ReadBack.{Rising, SameWidth, scale_back, wires_back, signa
 use Rattle.dump.specs.Dump.{signals_of, time_after, sample_of, samples_from, is_scan, motors_before_scans, requests_dump, dump_of}
 use Rattle.dump.specs.Claim.{histories_in, record_at, outputs_at, ReadsBack, DumpClaim}
 use Rattle.dump.proofs.SignalLaws.{signals_length}
-use Rattle.dump.proofs.DumpLaws.{samples_accepted, samples_refused, before_accepted, before_scan, time_goes, once_scanned, scan_counted}
+use Rattle.dump.proofs.DumpLaws.{by_refusal, samples_accepted, samples_refused, before_accepted, before_scan, time_goes, once_scanned, scan_counted}
 use Rattle.dump.proofs.Outputs.{outputs_from, samples_outputs}
 
 -- ---- the times rise, by at most 10,000 with each request
@@ -46,25 +44,16 @@ one_between : (last time : ℕ) (t : State) (r : Request) (ss : List Sample) →
 unfolding time_after sample_of refusal_for scan_refusal
 one_between last time t (M number ops1 ops2 w u) ss h l b = b
 one_between last time t (I number word) ss h l b = b
-one_between last time t (S period) ss h l b =
-    let least = (period_limits period (table-in-limits t.motors t.words period h).period).0 in
-    (omega (arith, least), l, b)
+one_between last time t (S period) ss h l b = (grind (arith, period_limits, table-in-limits), l, b)
 one_between last time t Refused ss h l b = b
 
 samples_between : (last time : ℕ) (t : State) (rs : List Request) → time + 10000 * length rs ≤ last → Between time last (samples_from time t rs)
 unfolding samples_from when◌then◌else◌
 samples_between last time t [] h = tt
-samples_between last time t (r ∷ rs) h = go (eqb (refusal_for t r) 0) refl (samples_between last (time_after time r) (changed t r) rs)
-  where
-    later : List Sample
-    later = samples_from (time_after time r) (changed t r) rs
-
-    go : (b : Bool) → eqb (refusal_for t r) 0 ≡ b → (time_after time r + 10000 * length rs ≤ last → Between (time_after time r) last later)
-        → Between time last (when b then sample_of (time_after time r) (changed t r) r ++ later else [])
-    go true e k =
-        let l = (time_goes time t r (eqb-true _ _ e)).1 in
-        one_between last time t r later (eqb-true _ _ e) (omega arith) (k (omega arith))
-    go false e k = tt
+samples_between last time t (r ∷ rs) h =
+    by_refusal t r (λ k. rw (samples_accepted t r rs k time)
+    (one_between last time t r _ k (omega (arith, (time_goes time t r k).1)) (samples_between last (time_after time r) (changed t r) rs (omega (arith, (time_goes time t r k).1)))))
+    (λ k. rw (samples_refused t r rs k time) tt)
 
 -- ---- each sample has the signals of the motors before the first scan
 
@@ -88,12 +77,8 @@ one_wide time t Refused rs h k = absurd (not_accepted t Refused h refl)
 samples_wide : (time : ℕ) (t : State) (rs : List Request) → SameWidth (length (signals_of (motors_before_scans t rs))) (samples_from time t rs)
 unfolding samples_from
 samples_wide time t [] = tt
-samples_wide time t (r ∷ rs) = go (eqb (refusal_for t r) 0) refl (samples_wide (time_after time r) (changed t r) rs)
-  where
-    go : (b : Bool) → eqb (refusal_for t r) 0 ≡ b → SameWidth (length (signals_of (motors_before_scans (changed t r) rs))) (samples_from (time_after time r) (changed t r) rs)
-        → SameWidth (length (signals_of (motors_before_scans t (r ∷ rs)))) (samples_from time t (r ∷ rs))
-    go true e k = one_wide time t r rs (eqb-true _ _ e) k
-    go false e k = rw (samples_refused t r rs (eqb-false _ _ e) time) tt
+samples_wide time t (r ∷ rs) =
+    by_refusal t r (λ k. one_wide time t r rs k (samples_wide (time_after time r) (changed t r) rs)) (λ k. rw (samples_refused t r rs k time) tt)
 
 -- ---- of a file: the motors of its header, and its accepted scans up to the first refused line, each with all periods up to then, added up
 

@@ -1,11 +1,12 @@
 -- Laws of the signals of motors, one motor after another, by the states of their outputs. Assumes nothing.
-use Rattle.std.proofs.Common.{ℕ, zero, suc, ◌+◌, ◌-◌, ◌*◌, ◌<◌, ◌≤◌, ◌≡◌, refl, sym, ap, ◌∙◌, Bool, true, false, List, [], ◌∷◌, ◌++◌, append_assoc, length, arith}
+use Rattle.std.proofs.Common.{ℕ, suc, ◌+◌, ◌-◌, ◌*◌, ◌<◌, ◌≤◌, ◌≡◌, refl, sym, ap, ◌∙◌, Bool, true, false, List, [], ◌∷◌, ◌++◌, append_assoc, length, arith}
 use Rattle.std.specs.Prelude.{◌||◌, eqb, min, take, drop, set, get_or}
+use Rattle.std.proofs.lemmas.Grind.{common_steps}
 use Rattle.std.specs.List.{zip, list_any}
 use native.Mathlib.Numerals.{add-one}
 use lib.ListN.{length-append, length-map, get_or-map, drop_of_length-le}
 use native.Mathlib.Decide.{dec_le}
-use lib.Seq.{take-suc, take-suc-set, drop-cons}
+use lib.Seq.{take-suc, take-suc-set, take_all, drop-cons}
 use borrow.Author.Tests.{eq-eqb, ne_eqb}
 use Rattle.words.specs.Word.{when◌then◌else◌}
 use Rattle.words.proofs.Laws.{either}
@@ -14,7 +15,7 @@ use Rattle.rules.specs.Record.{output_on, output_off}
 use Rattle.sheet.specs.Split.{joined}
 use Rattle.report.specs.Puts.{Puts}
 use Rattle.report.specs.declared.page.Page.{Page}
-use Rattle.report.proofs.PutLaws.{puts_then}
+use Rattle.report.proofs.PutLaws.{puts_none, puts_then}
 use Rattle.vcd.specs.Text.{opening_of, code_of, wires_from, on_name, off_name, wire_line, value_line, values_from, word_line, differs, change_line, changes_from, timed}
 use Rattle.vcd.proofs.TextLaws.{timed_length, opening_length}
 use Rattle.dump.specs.Dump.{output_state, output_states, state_signals, signals_of, opening}
@@ -24,13 +25,16 @@ use Rattle.dump.specs.Signals.{first_by, scan_by, motor_differs, Tells}
 -- ---- one motor more
 
 -- Whoever puts the rest puts the whole.
-abbrev pub Completes : Page → List ℕ → Page → List ℕ → Type 0
-Completes from whole here rest = (q : Page) → Puts here rest q → Puts from whole q
+pub record Completes (from : Page) (whole : List ℕ) (here : Page) (rest : List ℕ) : Type 0 where
+  pub by : (q : Page) → Puts here rest q → Puts from whole q
+
+pub all_left : {p : Page} {whole : List ℕ} → Completes p whole p whole
+all_left = record { by = λ q h. h }
 
 -- two lines more
 pub two_more : {from here mid later : Page} {whole rest a b c : List ℕ} → Completes from whole here rest → rest ≡ a ++ (b ++ c) → Puts here a mid → Puts mid b later
     → Completes from whole later c
-two_more more e p k q h = more q (rw e (puts_then p (puts_then k h)))
+two_more more e p k = record { by = λ q h. more.by q (rw e (puts_then p (puts_then k h))) }
 
 abbrev pub on : ℕ → Bool
 on s = eqb s output_on
@@ -74,28 +78,52 @@ changes_over i n ss ts h = go (dec_le (length ss) n)
     go (yes l) = rw (drop_of_length-le ss l)
     go (no l) = rw (drop_of_length-le ts {i = n} (omega arith)) (over _)
 
+-- ---- a motor's lines put, in the loops over the motors, and no motor left
+
+module _ {from here mid later : Page} {whole : List ℕ} (i : ℕ) {c d : ℕ} (e : code_of (2 * i) ≡ c ∷ []) (f : code_of (2 * i + 1) ≡ d ∷ []) where
+  pub wires_put : (held : ℕ) → i < held → Completes from whole here (wires_from (2 * i) (i + 1) (held - i)) → Puts here (wire_line (c ∷ []) (on_name (i + 1))) mid
+      → Puts mid (wire_line (d ∷ []) (off_name (i + 1))) later → Completes from whole later (wires_from (2 * (i + 1)) (i + 1 + 1) (held - (i + 1)))
+  wires_put held h more = two_more more (rw (wires_more i held h, e, f))
+
+  pub values_put : (ss : List ℕ) (x : ℕ) → i < length ss → Completes from whole here (values_from (2 * i) (state_signals (drop i ss)))
+      → Puts here (value_line (c ∷ []) (on (get_or ss i x))) mid → Puts mid (value_line (d ∷ []) (off (get_or ss i x))) later
+      → Completes from whole later (values_from (2 * (i + 1)) (state_signals (drop (i + 1) ss)))
+  values_put ss x h more = two_more more (rw (values_more i ss x h, e, f))
+
+  pub changes_put : (ss ts : List ℕ) (x y : ℕ) → i < length ss → i < length ts → Completes from whole here (changes_from (2 * i) (state_signals (drop i ss)) (state_signals (drop i ts)))
+      → Puts here (change_line (c ∷ []) (on (get_or ss i x)) (on (get_or ts i y))) mid → Puts mid (change_line (d ∷ []) (off (get_or ss i x)) (off (get_or ts i y))) later
+      → Completes from whole later (changes_from (2 * (i + 1)) (state_signals (drop (i + 1) ss)) (state_signals (drop (i + 1) ts)))
+  changes_put ss ts x y h k more = two_more more (rw (changes_more i ss ts x y h k, e, f))
+
+module _ {from here : Page} {whole : List ℕ} (i j : ℕ) where
+  pub wires_end : (held number : ℕ) → held ≤ i → Completes from whole here (wires_from j number (held - i)) → Puts from whole here
+  unfolding wires_from
+  wires_end held number h more = let none : held - i ≡ 0 = omega arith in more.by here (rw none puts_none)
+
+  pub values_end : (ss : List ℕ) → length ss ≤ i → Completes from whole here (values_from j (state_signals (drop i ss))) → Puts from whole here
+  unfolding values_from state_signals
+  values_end ss h more = more.by here (rw (drop_of_length-le ss {i = i} h) puts_none)
+
+  pub changes_end : (ss ts : List ℕ) → min (length ss) (length ts) ≤ i → Completes from whole here (changes_from j (state_signals (drop i ss)) (state_signals (drop i ts)))
+      → Puts from whole here
+  changes_end ss ts h more = more.by here (rw (changes_over j i ss ts h) puts_none)
+
 -- ---- whether there are any
 
 no_cons : {b : ℕ} {l : List ℕ} → b ∷ l ≡ [] → ⊥
-no_cons e = let z : ◌≡◌ {A = ℕ} 0 1 = cc in omega arith
+no_cons = grind (arith, common_steps)
 
 -- of two runs of lines
 tells_both : (l m : List ℕ) (a b : Bool) → Tells l a → Tells m b → Tells (l ++ m) (a || b)
 tells_both [] m true b h k = absurd (h refl)
+tells_both [] m false true h k = k
+tells_both [] m false false h k = k
 tells_both (x ∷ l) m true b h k = no_cons
-tells_both l m false b h k = rw h (alone b k)
-  where
-    alone : (c : Bool) → Tells m c → Tells ([] ++ m) c
-    alone true g = g
-    alone false g = g
+tells_both (x ∷ l) m false b h k = absurd (no_cons h)
 
 tells_change : (code : List ℕ) (v w : Bool) → Tells (change_line code v w) (differs v w)
 unfolding change_line value_line word_line joined when◌then◌else◌
-tells_change code v w = go (differs v w)
-  where
-    go : (b : Bool) → Tells (when b then value_line code w else []) b
-    go true = no_cons
-    go false = refl
+tells_change code v w = grind (arith, common_steps)
 
 pub tells_changes : (i : ℕ) (ss ts : List ℕ) → Tells (changes_from i (state_signals ss) (state_signals ts)) (list_any (λ (p : ℕ × ℕ). motor_differs p.0 p.1) (zip ss ts))
 unfolding changes_from state_signals motor_differs
@@ -120,18 +148,16 @@ unfolding signals_of
 signals_length ms = states_length (output_states ms) ∙ rw (length-map ms output_state)
 
 -- written one after another
-pub state_more : (ms : List Motor) (ss : List ℕ) (i : ℕ) (d : Motor) → i < length ms → i < length ss → take i ss ≡ take i (output_states ms)
+pub state_more : (ms : List Motor) (ss : List ℕ) (i : ℕ) (d : Motor) → i < length ms → length ms ≤ 32 → length ss ≡ 32 → take i ss ≡ take i (output_states ms)
     → take (i + 1) (set ss i (get_or ms i d).output.state) ≡ take (i + 1) (output_states ms)
-state_more ms ss i d h k e =
+state_more ms ss i d h few is e =
     rw (add-one i)
-    (take-suc-set ss i (output_state (get_or ms i d)) k
+    (take-suc-set ss i (output_state (get_or ms i d)) (omega arith)
     ∙ ap (λ (l : List ℕ). l ++ (output_state (get_or ms i d) ∷ [])) e
     ∙ sym (take-suc (output_states ms) i (output_state d) (omega (arith, length-map ms output_state)) ∙ rw (get_or-map output_state ms i d)))
 
-pub states_take : (n : ℕ) (ms : List Motor) → output_states (take n ms) ≡ take n (output_states ms)
-states_take zero ms = refl
-states_take (suc n) [] = refl
-states_take (suc n) (m ∷ ms) = ap (λ (l : List ℕ). m.output.state ∷ l) (states_take n ms)
+pub all_states : (ms : List Motor) (ss : List ℕ) (i : ℕ) → i ≡ length ms → take i ss ≡ take i (output_states ms) → take (length ms) ss ≡ output_states ms
+all_states ms ss i f e = rw (← f) (e ∙ take_all i (output_states ms) (omega (arith, f, length-map ms output_state)))
 
 pub first_is : (scans : ℕ) (ms : List Motor) → first_by scans (length (output_states ms)) (output_states ms) ≡ first_text scans ms
 unfolding first_by first_text opening signals_of

@@ -11,20 +11,21 @@ use interpreter::{Bench, is_too_long};
 use report::Page;
 use sheet::next_request;
 
-// The most bytes that a line of a file adds to the dump, or its end.
-pub const MOST_PUT: usize = 2633;
-
 impl Course for Recording {
     ghost walk = { recorded };
 
     ghost MOST_PUT = { most_put };
 
-    const MOST_PUT: usize = MOST_PUT;
+    const MOST_PUT: usize = 2633;
 
-    // An empty bench before the first line of a file. Of a file that is too long there is no dump. The claim on reading back holds of
-    // every file; it stands here so that it cannot be lost.
+    // An empty bench before the first line of a file. Of a file that is too long there is no dump. With the beginning comes the
+    // claim on reading back (`Begins`), so that it cannot be lost.
     fn begin(file: &[u8], _page: &mut Page) -> Recording {
-        let at = if is_too_long(file.len()) { file.len() + 1 } else { 0 };
+        let at = if is_too_long(file.len()) {
+            file.len() + 1
+        } else {
+            0
+        };
         Recording {
             bench: Bench::empty(),
             at,

@@ -8,8 +8,8 @@ ghost use Rattle.course.specs.Walk.{Scans};
 ghost use Rattle.dump.specs.Advance.{recorded};
 
 use crate::Recording;
-use crate::lines::MOST_PUT;
 use crate::signals::Outputs;
+use course::Course;
 use interpreter::{Inputs, next_number, next_scan};
 use report::Page;
 use rules::Motor;
@@ -38,6 +38,7 @@ fn scan(motors: &mut [Motor], words: &[u32], period: u32)
     requires { table_refusal motors.old words.now period ≡ 0 }
     ensures { motors.new ≡ table_after motors.old words.now period }
 {
+    // of records that are lent behind an adapter, as zip, nothing would be known afterwards
     for i in 0..motors.len() {
         motors[i] = stepped(motors[i], words[i], period);
     }
@@ -46,7 +47,7 @@ fn scan(motors: &mut [Motor], words: &[u32], period: u32)
 impl Recording {
     // The I and S lines from here on, up to the first line that is refused or of another kind, and as long as there is room.
     #[tactic(auto, unfolding(rules::specs::Refusals::most_motors))]
-    pub fn scan_lines(&mut self, file: &[u8], page: &mut Page)
+    pub(crate) fn scan_lines(&mut self, file: &[u8], page: &mut Page)
         requires { refusal_for (view_of self.old.bench) (S 1) ≡ 0 }
         ensures { Scans recorded file.now self.old page.old self.new page.new }
     {
@@ -59,12 +60,16 @@ impl Recording {
             line: 0,
         };
         let mut before = Outputs::of_bench(self.bench);
-        while MOST_PUT <= page.room() {
+        while Recording::MOST_PUT <= page.room() {
             inputs.take(file, self.bench.count);
             let Some((period, next)) = next_scan(file, inputs.at) else {
                 break;
             };
-            scan(&mut self.bench.motors[..held], &inputs.words[..held], period);
+            scan(
+                &mut self.bench.motors[..held],
+                &inputs.words[..held],
+                period,
+            );
             let after = Outputs::of(&self.bench.motors[..held]);
             self.time = totals::plus(self.time, period);
             after.put_scan(page, self.bench.scans, self.time, &before);

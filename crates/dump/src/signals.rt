@@ -49,7 +49,8 @@ fn put_change(page: &mut Page, code: u8, before: bool, after: bool)
     }
 }
 
-// The states of the motors' outputs, as many as are in use. The signals go by them, since arrays of records are dear to hand on.
+// The states of the motors' outputs, as many as are in use, in fixed memory, since there is no heap here. The signals go by them, since
+// arrays of records are dear to hand on.
 #[derive(Drop)]
 pub struct Outputs {
     states: [u32; MOST_MOTORS],
@@ -65,6 +66,7 @@ impl Model for Outputs {
 }
 
 impl Outputs {
+    #[tactic(auto, using(crate::proofs::SignalLaws::state_more, crate::proofs::SignalLaws::all_states))]
     pub fn of(motors: &[Motor]) -> Outputs
         requires { length motors.now ≤ 32 }
         ensures { result ≡ output_states motors.now }
@@ -94,6 +96,7 @@ impl Outputs {
         &self.states[..self.held]
     }
 
+    #[tactic(auto, using(crate::proofs::SignalLaws::all_left, crate::proofs::SignalLaws::wires_put, crate::proofs::SignalLaws::wires_end))]
     fn put_wires(&self, page: &mut Page)
         ensures { Puts page.old (wires_from 0 1 (length self.now)) page.new }
     {
@@ -103,6 +106,7 @@ impl Outputs {
         }
     }
 
+    #[tactic(auto, using(crate::proofs::SignalLaws::all_left, crate::proofs::SignalLaws::values_put, crate::proofs::SignalLaws::values_end))]
     fn put_values(&self, page: &mut Page)
         ensures { Puts page.old (values_from 0 (state_signals self.now)) page.new }
     {
@@ -141,6 +145,7 @@ impl Outputs {
     }
 
     // The signals that changed, by number.
+    #[tactic(auto, using(crate::proofs::SignalLaws::all_left, crate::proofs::SignalLaws::changes_put, crate::proofs::SignalLaws::changes_end))]
     fn put_changes(&self, page: &mut Page, before: &Outputs)
         ensures { Puts page.old (changes_from 0 (state_signals before.now) (state_signals self.now)) page.new }
     {

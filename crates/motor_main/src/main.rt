@@ -70,8 +70,7 @@ fn refused_by_order() -> bool
     ensures { result ≡ true }
 {
     let m = after_three(32, 4128, 16, 100);
-    let mut broken = m;
-    broken.sum = 600000;
+    let broken = Motor { sum: 600000, ..m };
     (code(accept(m, 131072, 10001)) == 2) & (code(accept(broken, 131072, 10001)) == 6)
 }
 

@@ -1,5 +1,5 @@
 -- Laws of what is put into a page, and of storing where there is room. Assumes nothing.
-use Prim.Native.Nat.{ℕ, ◌+◌, ◌-◌, ◌*◌, ◌/◌, ◌%◌, ◌^◌, ◌<◌, ◌≤◌}
+use Prim.Native.Nat.{ℕ, ◌+◌, ◌/◌, ◌%◌, ◌^◌, ◌<◌, ◌≤◌}
 use mathlib.Core.Path.{◌≡◌, refl}
 use mathlib.Core.List.{[], ◌∷◌, ◌++◌, append_assoc}
 use native.Mathlib.Omega.{arith}
@@ -20,30 +20,24 @@ use Rattle.report.proofs.PrintLaws.{decimal_less, decimal_more, decimal_length}
 
 -- ---- a number
 
--- its digits before the last, then the last
-decimal_last : (n : ℕ) → 10 ≤ n → n < 2 ^ 32 → decimal n ≡ decimal (n / 10) ++ (48 + (n - n / 10 * 10)) ∷ []
-decimal_last n h g =
-    let e : n - n / 10 * 10 ≡ n % 10 = omega arith in rw (decimal_more n h g, e)
-
 pub number_less : {p q : Page} (n : ℕ) → n < 10 → Puts p ((48 + n) ∷ []) q → Puts p (decimal n) q
 number_less n h j = rw (decimal_less n h) j
 
-pub number_then : {p q r : Page} (n : ℕ) → 10 ≤ n → n < 2 ^ 32 → Puts p (decimal (n / 10)) q → Puts q ((48 + (n - n / 10 * 10)) ∷ []) r → Puts p (decimal n) r
-number_then n h g j k = rw (decimal_last n h g) (puts_then j k)
+pub number_then : {p q r : Page} (n : ℕ) → 10 ≤ n → n < 2 ^ 32 → Puts p (decimal (n / 10)) q → Puts q ((48 + n % 10) ∷ []) r → Puts p (decimal n) r
+number_then n h g j k = rw (decimal_more n h g) (puts_then j k)
 
 -- two digits at a time
 pub pair_less : {p q : Page} (n : ℕ) → 10 ≤ n → n < 100 → Puts p (pair_of n) q → Puts p (decimal n) q
 unfolding pair_of
-pair_less n h g j = rw (decimal_last n h (omega arith), decimal_less (n / 10) (omega arith)) j
+pair_less n h g j = rw (decimal_more n h (omega arith), decimal_less (n / 10) (omega arith)) j
 
-pub pair_then : {p q r : Page} (n : ℕ) → 100 ≤ n → n < 2 ^ 32 → Puts p (decimal (n / 100)) q → Puts q (pair_of (n - n / 100 * 100)) r → Puts p (decimal n) r
+pub pair_then : {p q r : Page} (n : ℕ) → 100 ≤ n → n < 2 ^ 32 → Puts p (decimal (n / 100)) q → Puts q (pair_of (n % 100)) r → Puts p (decimal n) r
 unfolding pair_of
 pair_then n h g j k =
-    let m = n - n / 100 * 100 in
     let hundreds : n / 10 / 10 ≡ n / 100 = omega arith in
-    let tens : n / 10 - n / 10 / 10 * 10 ≡ m / 10 = omega arith in
-    let ones : n - n / 10 * 10 ≡ m - m / 10 * 10 = omega arith in
-    rw (decimal_last n (omega arith) g, decimal_last (n / 10) (omega arith) (omega arith), ones, tens, hundreds, append_assoc) (puts_then j k)
+    let tens : n / 10 % 10 ≡ n % 100 / 10 = omega arith in
+    let ones : n % 10 ≡ n % 100 % 10 = omega arith in
+    rw (decimal_more n (omega arith) g, decimal_more (n / 10) (omega arith) (omega arith), ones, tens, hundreds, append_assoc) (puts_then j k)
 
 -- ---- a row
 

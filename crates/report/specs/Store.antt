@@ -1,8 +1,12 @@
 -- What the functions of src/rows.rt need, which store where there is room and test no place
-use Rattle.std.specs.Prelude.{ℕ, ◌+◌, ◌-◌, ◌*◌, ◌/◌, ◌≤◌, ◌≡◌, Bool, ◌&&◌, List, [], ◌∷◌, ◌++◌, ltb, length}
+use Rattle.std.specs.Prelude.{ℕ, ◌+◌, ◌/◌, ◌%◌, ◌≤◌, ◌≡◌, Bool, ◌&&◌, List, [], ◌∷◌, ◌++◌, ltb, length}
 use Rattle.report.specs.Print.{after_comma}
 use Rattle.report.specs.declared.Row.{Row}
 use Rattle.report.specs.declared.page.Page.{Page}
+
+-- There is room for so many bytes more
+abbrev pub Fits : Page → ℕ → Type 0
+Fits page most = page.used + most ≤ length page.bytes.now
 
 -- No more than so many bytes of the room are taken
 pub record Takes (before : Page) (most : ℕ) (after : Page) : Type 0 where
@@ -11,7 +15,7 @@ pub record Takes (before : Page) (most : ℕ) (after : Page) : Type 0 where
 
 -- The two digits of a number below a hundred
 unfoldable pub pair_of : ℕ → List ℕ
-pair_of n = (48 + n / 10) ∷ (48 + (n - n / 10 * 10)) ∷ []
+pair_of n = (48 + n / 10) ∷ (48 + n % 10) ∷ []
 
 -- The five fields in the middle of a row, and whether each has one digit
 unfoldable pub states_of : Row → List ℕ

@@ -83,9 +83,8 @@ impl<'a> Page<'a> {
         if n < 10 {
             return self.byte(48 + n as u8);
         }
-        let tens = n / 10;
-        self.digits(tens);
-        self.byte(48 + (n - tens * 10) as u8)
+        self.digits(n / 10);
+        self.byte(48 + (n % 10) as u8)
     }
 
     // A line of a letter and numbers, each after its comma.

@@ -1,8 +1,8 @@
 // A row stored where there is room for it: most of what is printed are rows, and one test of the place for the whole row is
 // cheaper than one for each byte.
-ghost use Rattle.std.specs.Prelude.{◌+◌, ◌<◌, ◌≤◌, ◌≡◌, true, [], ◌∷◌, length};
+ghost use Rattle.std.specs.Prelude.{◌+◌, ◌<◌, ◌≡◌, true, [], ◌∷◌};
 ghost use Rattle.report.specs.Puts.{Puts};
-ghost use Rattle.report.specs.Store.{Takes, pair_of, states_of, short_states};
+ghost use Rattle.report.specs.Store.{Fits, Takes, pair_of, states_of, short_states};
 ghost use Rattle.report.specs.Print.{decimal, after_comma, row_of};
 
 use crate::{Page, Row};
@@ -36,7 +36,7 @@ impl<'a> Page<'a> {
     }
 
     fn store_row(&mut self, row: Row)
-        requires room { self.old.used + 90 ≤ length self.old.bytes.now }
+        requires room { Fits self.old 90 }
         requires states { short_states row ≡ true }
         ensures { Puts self.old (row_of row) self.new }
     {
@@ -51,7 +51,7 @@ impl<'a> Page<'a> {
     // mode,position,command,end,output, each after its comma.
     #[tactic(auto, using(crate::proofs::PageLaws::short_states_lem))]
     fn store_states(&mut self, row: Row)
-        requires room { self.old.used + 10 ≤ length self.old.bytes.now }
+        requires room { Fits self.old 10 }
         requires states { short_states row ≡ true }
         ensures puts { Puts self.old (states_of row) self.new }
         ensures room { Takes self.old 10 self.new }
@@ -65,7 +65,7 @@ impl<'a> Page<'a> {
 
     // A number of one digit after its comma.
     fn store_state(&mut self, n: u32)
-        requires { (n < 10) × (self.old.used + 2 ≤ length self.old.bytes.now) }
+        requires { (n < 10) × Fits self.old 2 }
         ensures puts { Puts self.old (after_comma n) self.new }
         ensures room { Takes self.old 2 self.new }
     {
@@ -76,7 +76,7 @@ impl<'a> Page<'a> {
     // A number after its comma.
     #[tactic(auto, using(crate::proofs::PutLaws::puts_then), unfolding(crate::specs::Print::after_comma))]
     fn store_field(&mut self, n: u32)
-        requires { self.old.used + 11 ≤ length self.old.bytes.now }
+        requires { Fits self.old 11 }
         ensures puts { Puts self.old (after_comma n) self.new }
         ensures room { Takes self.old 11 self.new }
     {
@@ -86,7 +86,7 @@ impl<'a> Page<'a> {
 
     // A number of up to five digits without a loop; longer ones are rare.
     fn store_number(&mut self, n: u32)
-        requires { self.old.used + 10 ≤ length self.old.bytes.now }
+        requires { Fits self.old 10 }
         ensures puts { Puts self.old (decimal n) self.new }
         ensures room { Takes self.old 10 self.new }
     {
@@ -97,7 +97,7 @@ impl<'a> Page<'a> {
             return self.store_pair(n);
         }
         let hundreds = n / 100;
-        let last = n - hundreds * 100;
+        let last = n % 100;
         if hundreds < 10 {
             self.store_digit(hundreds);
             return self.store_pair(last);
@@ -107,9 +107,8 @@ impl<'a> Page<'a> {
             return self.store_pair(last);
         }
         if hundreds < 1000 {
-            let first = hundreds / 100;
-            self.store_digit(first);
-            self.store_pair(hundreds - first * 100);
+            self.store_digit(hundreds / 100);
+            self.store_pair(hundreds % 100);
             return self.store_pair(last);
         }
         self.number(n)
@@ -118,18 +117,17 @@ impl<'a> Page<'a> {
     // Two digits.
     #[tactic(auto, using(crate::proofs::PutLaws::puts_then), unfolding(crate::specs::Store::pair_of))]
     fn store_pair(&mut self, n: u32)
-        requires { (n < 100) × (self.old.used + 2 ≤ length self.old.bytes.now) }
+        requires { (n < 100) × Fits self.old 2 }
         ensures puts { Puts self.old (pair_of n) self.new }
         ensures room { Takes self.old 2 self.new }
     {
-        let tens = n / 10;
-        self.store_digit(tens);
-        self.store_digit(n - tens * 10)
+        self.store_digit(n / 10);
+        self.store_digit(n % 10)
     }
 
     // One digit.
     fn store_digit(&mut self, n: u32)
-        requires { (n < 10) × (self.old.used + 1 ≤ length self.old.bytes.now) }
+        requires { (n < 10) × Fits self.old 1 }
         ensures puts { Puts self.old ((48 + n) ∷ []) self.new }
         ensures room { Takes self.old 1 self.new }
     {
@@ -137,7 +135,7 @@ impl<'a> Page<'a> {
     }
 
     fn store(&mut self, b: u8)
-        requires { self.old.used + 1 ≤ length self.old.bytes.now }
+        requires { Fits self.old 1 }
         ensures puts { Puts self.old (b ∷ []) self.new }
         ensures room { Takes self.old 1 self.new }
     {

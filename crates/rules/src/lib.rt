@@ -27,7 +27,7 @@ pub struct Status {
     pub previous: u32,
 }
 
-// An output, 0 none, 1 On or 2 Off, and its pulse sum.
+// An output, 0 none, 1 On or 2 Off, and its pulse sum: numbers, as in Status.
 #[derive(Clone, Copy, Debug, Default, PartialEq, Eq)]
 pub struct Output {
     pub state: u32,

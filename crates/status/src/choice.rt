@@ -1,15 +1,14 @@
-// Steps 7 and 8: acknowledging, and the choice among the commands.
+// Steps 7 and 8: acknowledging, and the choice among the commands. What On and Off have alike is said twice, as the steps say it: each has
+// bits, options and flags of its own, which one function for both would be handed one by one.
 #![tactic(auto, unfolding(rules::specs::Opened::opened))]
 
 ghost use Rattle.std.specs.Prelude.{◌≡◌};
 ghost use Rattle.rules.specs.Steps.{acknowledges_off, acknowledges_on, flags7, status7, acknowledges, wrong_place, on_forbidden, off_forbidden, admitted, candidate, chosen, displaces, starts, issues, issued};
 
 use crate::command::{direction_of, is_local, is_off, is_on, is_operator, is_risen};
+use crate::issue::OFF_FLAGS;
 use rules::{Settings, Status};
 use words::{choose, has, masked_out, without_bit};
-
-// Flags 5 and 6.
-const OFF_FLAGS: u32 = 96;
 
 pub fn is_off_acknowledged(s: Settings, v: Status, word: u32) -> bool
     ensures { result ≡ acknowledges_off s v word }
@@ -91,7 +90,7 @@ pub fn is_candidate(s: Settings, v: Status, word: u32, c: u32) -> bool
     false
 }
 
-// The strongest candidate, or 0.
+// The strongest candidate, or 0, the number that a record has for no command.
 pub fn choice(s: Settings, v: Status, word: u32) -> u32
     ensures { result ≡ chosen s v word }
 {
@@ -122,7 +121,7 @@ pub fn is_issued(v: Status, new: u32) -> bool
     }
 }
 
-// Step 8: the command that is issued, or 0.
+// Step 8: the command that is issued, or 0, which goes into the record as it is.
 pub fn to_issue(s: Settings, v: Status, word: u32) -> u32
     ensures { result ≡ issued s v word }
 {

@@ -1,4 +1,4 @@
-// The seven switching commands, by number: 0 is no command.
+// The seven switching commands, by number: 0 is no command. Each test of a command is short, and a rule of its own in the steps.
 #![tactic(auto, unfolding(rules::specs::Opened::opened))]
 
 ghost use Rattle.std.specs.Prelude.{◌≡◌};
@@ -7,7 +7,8 @@ ghost use Rattle.rules.specs.Record.{direction, is_on, is_off, is_mu, is_ko, inp
 use rules::Status;
 use words::has_risen;
 
-// Direction, 1 off or 2 on, and input bit; no word has a bit 32.
+// Direction, 1 off or 2 on, and input bit; no word has a bit 32. Two tables by number, as the block has them: whoever looks one up mostly
+// asks for nothing of the other.
 const DIRECTIONS: [u32; 8] = [0, 1, 1, 2, 1, 2, 1, 2];
 
 const INPUT_BITS: [u32; 8] = [32, 0, 8, 7, 3, 2, 13, 12];

@@ -9,7 +9,7 @@ use rules::{Settings, Status};
 use words::{choose, has, masked_out, with_bit, without_bit};
 
 // Flags 5 and 6.
-const OFF_FLAGS: u32 = 96;
+pub const OFF_FLAGS: u32 = 96;
 
 #[tactic(auto, using(crate::proofs::Masks::off_flags), unfolding(rules::specs::Steps::flags9))]
 pub fn issue_flags(c: u32, flags: u32) -> u32

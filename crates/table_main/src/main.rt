@@ -1,4 +1,5 @@
-// Runs tables of motors through the open functions: a full one, one too many, none, and each refusal.
+// Runs tables of motors through the open functions: a full one, one too many, none, and each refusal. Each is a function of its own, whose
+// clause says that it holds: of one for all, handed the numbers, no clause could say so.
 #![tactic(auto)]
 
 ghost use Rattle.std.specs.Prelude.{◌≡◌, true, replicate};
@@ -14,7 +15,7 @@ fn scan_fresh(ops1: u32, count: usize, word: u32, period: u32) -> (u32, [Motor; 
     ensures { (result.0 ≡ part_refusal (replicate 32 (fresh (record { ops1 = ops1; ops2 = 0; w = 500; u = 300 }))) count (replicate 32 word) period) × (result.1 ≡ part_after (replicate 32 (fresh (record { ops1 = ops1; ops2 = 0; w = 500; u = 300 }))) count (replicate 32 word) period) }
 {
     let s = Settings {
-        ops1: ops1,
+        ops1,
         ops2: 0,
         w: 500,
         u: 300,

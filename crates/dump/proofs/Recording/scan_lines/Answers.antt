@@ -1,4 +1,4 @@
-use Rattle.std.proofs.Common.{◌≡◌, ◌≤◌, ◌∙◌, ◌++◌, length, arith}
+use Rattle.std.proofs.Common.{◌∙◌, ◌++◌, arith}
 use Rattle.std.specs.Prelude.{Some, take, drop}
 use lib.ListN.{length-take}
 use Rattle.sheet.proofs.RequestLaws.{taken}

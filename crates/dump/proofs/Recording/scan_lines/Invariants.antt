@@ -2,7 +2,6 @@ use Rattle.std.proofs.Common.{◌≡◌, ◌≤◌, ◌-◌, length}
 use Rattle.interpreter.specs.State.{held_of}
 use Rattle.interpreter.specs.Lines.{ReadyBench}
 use Rattle.course.specs.Walk.{Run}
-use Rattle.report.specs.declared.page.Page.{Page}
 use Rattle.dump.specs.Dump.{output_states}
 use Rattle.dump.specs.Advance.{moment_of, recorded}
 use Rattle.dump.proofs.AdvanceLaws.{after_inputs}

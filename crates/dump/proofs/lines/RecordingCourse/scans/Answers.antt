@@ -14,6 +14,6 @@ returns-else-is_ok c =
       run = nothing_yet;
       within = λ l. l;
       over = λ room period next found ok.
-      unready _ period (λ z. false≢true (sym c.if-is_ok.false ∙ c.is_ok.ensures.value ∙ is_ok-from_zero _ (c.accept_scan.ensures ∙ z)))
-      (sym (same_refusal s.bench s.at s.time (S period)) ∙ ok);
+          unready _ period (λ z. false≢true (sym c.if-is_ok.false ∙ c.is_ok.ensures.value ∙ is_ok-from_zero _ (c.accept_scan.ensures ∙ z)))
+          (sym (same_refusal s.bench s.at s.time (S period)) ∙ ok);
     }
