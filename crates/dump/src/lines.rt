@@ -12,7 +12,7 @@ use report::Page;
 use sheet::next_request;
 
 // The most bytes that a line of a file adds to the dump, or its end.
-pub const MOST_PUT: usize = 2633;
+pub(crate) const MOST_PUT: usize = 2633;
 
 impl Course for Recording {
     ghost walk = { recorded };

@@ -46,7 +46,7 @@ fn scan(motors: &mut [Motor], words: &[u32], period: u32)
 impl Recording {
     // The I and S lines from here on, up to the first line that is refused or of another kind, and as long as there is room.
     #[tactic(auto, unfolding(rules::specs::Refusals::most_motors))]
-    pub fn scan_lines(&mut self, file: &[u8], page: &mut Page)
+    pub(crate) fn scan_lines(&mut self, file: &[u8], page: &mut Page)
         requires { refusal_for (view_of self.old.bench) (S 1) ≡ 0 }
         ensures { Scans recorded file.now self.old page.old self.new page.new }
     {
