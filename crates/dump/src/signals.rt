@@ -52,7 +52,7 @@ fn put_change(page: &mut Page, code: u8, before: bool, after: bool)
 // The states of the motors' outputs, as many as are in use, in fixed memory, since there is no heap here. The signals go by them, since
 // arrays of records are dear to hand on.
 #[derive(Drop)]
-pub struct Outputs {
+pub(crate) struct Outputs {
     states: [u32; MOST_MOTORS],
     held: usize,
 }
@@ -67,7 +67,7 @@ impl Model for Outputs {
 
 impl Outputs {
     #[tactic(auto, using(crate::proofs::SignalLaws::state_more, crate::proofs::SignalLaws::all_states))]
-    pub fn of(motors: &[Motor]) -> Outputs
+    pub(crate) fn of(motors: &[Motor]) -> Outputs
         requires { length motors.now ≤ 32 }
         ensures { result ≡ output_states motors.now }
     {
@@ -81,7 +81,7 @@ impl Outputs {
 
     // A bench by value, since a proof is told the lengths of its arrays so.
     #[tactic(auto, using(interpreter::proofs::ActLaws::take_used, crate::proofs::AdvanceLaws::few), unfolding(rules::specs::Refusals::most_motors))]
-    pub fn of_bench(bench: Bench) -> Outputs
+    pub(crate) fn of_bench(bench: Bench) -> Outputs
         ensures shown { result ≡ output_states (take bench.count bench.motors) }
         ensures motors { length bench.motors ≡ 32 }
         ensures words { length bench.words ≡ 32 }
@@ -129,7 +129,7 @@ impl Outputs {
 
     // Header and #0, if no scan ran yet.
     #[tactic(auto, using(crate::proofs::SignalLaws::first_none_ran, crate::proofs::SignalLaws::first_some_ran, report::proofs::PutLaws::puts_none))]
-    pub fn put_first(&self, page: &mut Page, scans: u32)
+    pub(crate) fn put_first(&self, page: &mut Page, scans: u32)
         ensures { Puts page.old (first_by scans (length self.now) self.now) page.new }
     {
         if scans == 0 {
@@ -158,7 +158,7 @@ impl Outputs {
     }
 
     // What a scan adds to the dump.
-    pub fn put_scan(&self, page: &mut Page, scans: u32, time: u32, before: &Outputs)
+    pub(crate) fn put_scan(&self, page: &mut Page, scans: u32, time: u32, before: &Outputs)
         ensures { Puts page.old (scan_by scans time (length before.now) before.now self.now) page.new }
     {
         before.put_first(page, scans);
