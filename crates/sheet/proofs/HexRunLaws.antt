@@ -149,14 +149,6 @@ unfolding hex_run
 run_le [] = omega arith
 run_le (b ∷ s) = either (λ (l : List ℕ). length l ≤ suc (length s)) (is_hex_digit b) (omega (arith, run_le s)) (omega arith)
 
--- a field is all digits or goes on after them
-all_or_part : (s : List ℕ) → (length (hex_run s) ≡ length s → ⊥) → all_hex_digits s ≡ false
-all_or_part s h = go (all_hex_digits s) refl
-  where
-    go : (t : Bool) → all_hex_digits s ≡ t → all_hex_digits s ≡ false
-    go true e = absurd (h (ap length (run_all s e)))
-    go false e = e
-
 module _ (s : List ℕ) where
   pub digits_none : hex_run_at s 0 ≡ None → hex_number s ≡ None
   unfolding hex_run_at hex_number when◌then◌else◌

@@ -16,7 +16,7 @@ use Rattle.sheet.specs.Lines.{longest, line, well_sized, text_of, first_line, li
 use Rattle.sheet.specs.Number.{largest, is_digit, all_digits, value_from, digits_number, leading_zero, number_of}
 use Rattle.sheet.specs.WordField.{word_of}
 use Rattle.sheet.specs.Grammar.{letter_m, letter_i, letter_s, letter_of, is_kind, number_in, word_in, with_value, motor_from, input_from, scan_from, motor_of, input_of, scan_of, request_of, taken_at, next_at}
-use Rattle.sheet.specs.Places.{is_at, is_digit_at, begins_with, ends_line, SaidAt, Read}
+use Rattle.sheet.specs.Places.{is_at, is_digit_at, begins_with, ends_line, SaidAt, Read, NumberRead}
 use Rattle.std.specs.Prelude.{Option, Some, None}
 use Rattle.std.specs.Bool.{then_some}
 use Rattle.std.proofs.lemmas.Option.{none-some, same_Some}
@@ -240,11 +240,11 @@ module _ (file : List ℕ) (at : ℕ) where
       free : (x : ℕ) → x < 48 → index_of x (letter_s ∷ []) ≡ 1 → Free x ((letter_s ∷ []) ∷ between (at + 2) end file ∷ [])
       free x i f = free_more f (free_more ((parted (number_said n)).free x i) free_none)
 
-  pub input_next : {number parting word end : ℕ} → begins_with file at letter_i ≡ true → SaidAt number_of file (at + 2) number parting
-      → is_at file parting comma ≡ true → SaidAt word_of file (parting + 1) word end → ends_line file at end ≡ true
+  pub input_next : {number parting word end : ℕ} → NumberRead file at number parting → SaidAt word_of file (parting + 1) word end → ends_line file at end ≡ true
       → next_at file at ≡ Some (Input number word, end + 1)
   unfolding joined index_of when◌then◌else◌
-  input_next {number} {parting} {word} {end} b n c m e =
+  input_next {number} {parting} {word} {end} r m e =
+      let n = r.number_said in
       let d : List ℕ = between (at + 2) parting file in
       let g : List ℕ = between (parting + 1) end file in
       let p = parted (number_said n) in
@@ -252,12 +252,12 @@ module _ (file : List ℕ) (at : ℕ) where
       let l : List ℕ = joined comma ((letter_i ∷ []) ∷ d ∷ g ∷ []) in
       let k : suc parting ≡ parting + 1 = omega arith in
       let rest : drop (at + 2) file ≡ (d ++ comma ∷ g) ++ drop end file =
-      p.parts ∙ rw (drop_byte file parting comma c, k, q.parts, append_assoc) in
-      let parts : drop at file ≡ l ++ drop end file = begun file at letter_i b ∙ rw rest in
+      p.parts ∙ rw (drop_byte file parting comma r.parted, k, q.parts, append_assoc) in
+      let parts : drop at file ≡ l ++ drop end file = begun file at letter_i r.begins ∙ rw rest in
       let size : length l ≡ end - at = omega (arith, p.size, p.further, q.size, q.further, length-append d (comma ∷ g)) in
       line_next file l at end parts (omega arith) size e (free_joined comma_no_lf (free LF (omega arith) refl))
       ∙ rw (input_request d g number word (free comma (omega arith) refl) n.says m.says)
     where
       free : (x : ℕ) → x < 48 → index_of x (letter_i ∷ []) ≡ 1
           → Free x ((letter_i ∷ []) ∷ between (at + 2) parting file ∷ between (parting + 1) end file ∷ [])
-      free x i f = free_more f (free_more ((parted (number_said n)).free x i) (free_more ((parted m).free x i) free_none))
+      free x i f = free_more f (free_more ((parted (number_said r.number_said)).free x i) (free_more ((parted m).free x i) free_none))

@@ -1,16 +1,17 @@
 -- Laws of `split` and `index_of`: what the first b of a list parts. Assumes nothing.
-use Prim.Native.Nat.{ℕ, zero, suc, ◌+◌, ◌-◌, ◌<◌, ◌≤◌, min, max}
+use Prim.Native.Nat.{ℕ, zero, suc, ◌+◌, ◌-◌, ◌<◌, ◌≤◌, min}
 use mathlib.Core.Path.{◌≡◌, refl, sym, ap, ◌∙◌}
 use mathlib.Core.Bool.{Bool, true, false}
 use mathlib.Core.List.{List, [], ◌∷◌, ◌++◌}
 use native.Mathlib.Omega.{arith}
 use native.Mathlib.Decide.{dec_le, dec_lt}
 use lib.ListN.{length, take, drop, get_or, length-append, length-drop, drop_of_length-le}
-use lib.Seq.{drop-cons, take_all, take-nil, take-suc}
-use lib.Dec.{eqb}
-use borrow.Author.Tests.{eq-eqb, ne_eqb, eqb-true, eqb-false}
+use lib.Seq.{take_all, take-nil, take-suc}
+use lib.Dec.{eqb, ltb}
+use borrow.Author.Tests.{eq-eqb, ne_eqb, eqb-true, eqb-false, ltb-false}
 use Rattle.std.specs.Prelude.{Option, Some, None, count_by, cond, unwrap_or}
-use Rattle.std.specs.List.{slice_get, slice_split, onto_first}
+use Rattle.std.specs.List.{position, position_or_len, slice_get, slice_split, onto_first}
+use Rattle.std.proofs.lemmas.List.Recursion.{is_position_or_len}
 use Rattle.std.specs.Option.{option_copied}
 use Rattle.std.proofs.Common.{Bor}
 use Rattle.std.proofs.lemmas.Option.{unwrap_or-slice_get}
@@ -21,32 +22,26 @@ use Rattle.sheet.specs.Split.{comma, split, join_first, joined, index_of, betwee
 
 -- ---- the first b
 
-module _ (b : ℕ) (s : List ℕ) (i : ℕ) (h : i < length s) where
-  pub index_hit : get_or s i 0 ≡ b → index_of b (drop i s) ≡ 0
-  unfolding index_of when◌then◌else◌
-  index_hit e = rw (drop-cons s i 0 h, eq-eqb (get_or s i 0) b e)
-
-  pub index_miss : (get_or s i 0 ≡ b → ⊥) → index_of b (drop i s) ≡ suc (index_of b (drop (suc i) s))
-  unfolding index_of when◌then◌else◌
-  index_miss e = rw (drop-cons s i 0 h, ne_eqb (get_or s i 0) b e)
-
-pub index_past : (b : ℕ) (s : List ℕ) (i : ℕ) → length s ≤ i → index_of b (drop i s) ≡ 0
-unfolding index_of
-index_past b s i h = rw (drop_of_length-le s h)
-
--- the end, or the place itself past it, if the places passed have no b
-pub index_none : (b : ℕ) (s : List ℕ) (at i : ℕ) → at + index_of b (drop at s) ≡ i + index_of b (drop i s) → length s ≤ i → (at ≤ length s → i ≤ length s)
-    → max at (length s) ≡ at + index_of b (drop at s)
-index_none b s at i e h f = go (dec_le at (length s))
-  where
-    go : Dec (at ≤ length s) → max at (length s) ≡ at + index_of b (drop at s)
-    go (yes l) = omega (arith, index_past b s i h, f l)
-    go (no l) = omega (arith, index_past b s at (omega arith))
-
 pub index_le : (b : ℕ) (s : List ℕ) → index_of b s ≤ length s
 unfolding index_of
 index_le b [] = omega arith
 index_le b (x ∷ s) = either (λ (n : ℕ). n ≤ suc (length s)) _ (omega arith) (omega (arith, index_le b s))
+
+-- as std counts to it
+pub index_by : (b : ℕ) (s : List ℕ) (r : Option ℕ) → r ≡ position (λ x. eqb x b) s → unwrap_or r (length s) ≡ index_of b s
+unfolding index_of when◌then◌else◌
+index_by b s r e = rw (e, ← counted) (go (ltb (index_of b s) (length s)) refl)
+  where
+    counted : index_of b s ≡ position_or_len (λ x. eqb x b) s
+    counted = is_position_or_len (index_of b) (λ x. eqb x b) refl (λ x xs. either_way (eqb x b) (index_of b xs)) s
+      where
+        either_way : (t : Bool) (n : ℕ) → (when t then 0 else suc n) ≡ cond t 0 (1 + n)
+        either_way true n = refl
+        either_way false n = omega arith
+
+    go : (t : Bool) → ltb (index_of b s) (length s) ≡ t → unwrap_or (cond t (Some (index_of b s)) None) (length s) ≡ index_of b s
+    go true f = refl
+    go false f = omega (arith, ltb-false _ _ f, index_le b s)
 
 -- it is a b, and there is none before it
 pub index_is : (b : ℕ) (s : List ℕ) → index_of b s < length s → get_or s (index_of b s) 0 ≡ b

@@ -3,13 +3,13 @@ use Prim.Native.Nat.{ℕ, zero, suc, ◌+◌, ◌-◌, ◌*◌, ◌/◌, ◌%◌
 use mathlib.Core.Path.{◌≡◌, refl, sym, ap, ◌∙◌}
 use mathlib.Core.Bool.{Bool, true, false, not, ◌||◌, false≢true}
 use mathlib.Core.List.{List, [], ◌∷◌}
-use native.Mathlib.Nat.{add-zero, add-suc, div-add-mod'}
+use native.Mathlib.Nat.{div-add-mod'}
 use native.Mathlib.Omega.{arith}
 use native.Mathlib.Decide.{dec_lt}
 use lib.Bits.{bit_and, bit_or, bit_xor, and_block, or_block, xor_block, and_lt, or_lt, xor_lt, mask_lt}
 use lib.Dec.{eqb, lit<}
 use lib.ListN.{length, take, drop, get_or, length-drop, take-append-drop}
-use lib.Seq.{length-take-le, drop-cons, drop-drop}
+use lib.Seq.{length-take-le, take_all, drop-drop}
 use borrow.Author.Tests.{eq-eqb, ne_eqb, eqb-true, eqb-false}
 use Rattle.std.specs.Int.{to_le_bytes, from_le_bytes}
 use Rattle.std.proofs.lemmas.Nat.{le_bytes_8}
@@ -111,36 +111,15 @@ word_fits w h = omega arith
 -- ---- eight bytes of a list
 
 module _ (s : List ℕ) (i : ℕ) where
-  take_more : (n k : ℕ) → i + k < length s → take (suc n) (drop (i + k) s) ≡ get_or s (i + k) 0 ∷ take n (drop (i + suc k) s)
-  take_more n k h = rw (drop-cons s (i + k) 0 h, add-suc i k) refl
-
-  pub eight_at : i + 8 ≤ length s
-      → between i (i + 8) s
-      ≡ get_or s i 0 ∷ get_or s (i + 1) 0 ∷ get_or s (i + 2) 0 ∷ get_or s (i + 3) 0 ∷ get_or s (i + 4) 0 ∷ get_or s (i + 5) 0 ∷ get_or s (i + 6) 0 ∷ get_or s (i + 7) 0 ∷ []
-  unfolding between
-  eight_at h =
-      let size : i + 8 - i ≡ 8 = omega arith in
-      rw (
-        size,
-        rw (add-zero i) at (take_more 7 0 (omega arith)),
-        take_more 6 1 (omega arith),
-        take_more 5 2 (omega arith),
-        take_more 4 3 (omega arith),
-        take_more 3 4 (omega arith),
-        take_more 2 5 (omega arith),
-        take_more 1 6 (omega arith),
-        take_more 0 7 (omega arith),
-      )
-      refl
-
   -- and the word that they make
-  pub word_is : (w : ℕ) → i + 8 ≤ length s → ((k : ℕ) → get_or s k 0 < 256)
-      → w ≡ from_le_bytes w64 (get_or s i 0 ∷ get_or s (i + 1) 0 ∷ get_or s (i + 2) 0 ∷ get_or s (i + 3) 0 ∷ get_or s (i + 4) 0 ∷ get_or s (i + 5) 0 ∷ get_or s (i + 6) 0 ∷ get_or s (i + 7) 0 ∷ [])
-      → bytes_of 8 w ≡ between i (i + 8) s
+  pub word_is : (w : ℕ) (bytes : List ℕ) → i + 8 ≤ length s → ((k : ℕ) → get_or s k 0 < 256) → bytes ≡ take 8 (take (i + 8 - i) (drop i s))
+      → w ≡ from_le_bytes w64 bytes → bytes_of 8 w ≡ between i (i + 8) s
   unfolding between
-  word_is w h f e =
-      let z = eight_at h in
-      bytes_are w ∙ le_bytes_8 (between i (i + 8) s) w (ap length z) small (e ∙ ap (from_le_bytes w64) (sym z))
+  word_is w bytes h f same e =
+      let size : i + 8 - i ≡ 8 = omega arith in
+      let long = length-take-le (i + 8 - i) (drop i s) (omega (arith, length-drop i s)) in
+      let here : bytes ≡ between i (i + 8) s = same ∙ take_all 8 _ (omega (arith, long)) in
+      bytes_are w ∙ le_bytes_8 (between i (i + 8) s) w (long ∙ size) small (e ∙ ap (from_le_bytes w64) here)
     where
       small : (k : ℕ) → get_or (between i (i + 8) s) k 0 < 256
       small k = go (dec_lt k (i + 8 - i))

@@ -17,7 +17,7 @@ pub use quick::{is_at, next_request};
 pub use requests::{accept, parse};
 pub use word_fields::read_word;
 
-// What stands at a place of a file.
+// What stands at a place of a file: one of three, which `Option<Result<usize, _>>` would say no plainer.
 #[derive(Clone, Copy)]
 pub enum Line {
     // A line up to this place, where its LF stands.
@@ -48,5 +48,6 @@ pub enum Request {
     Scan {
         period: u32,
     },
+    // None: a case here and no Err, since the program counts such a line as it does the others, and only then refuses it.
     Refused,
 }

@@ -15,12 +15,8 @@ pub const LONGEST: usize = 80;
 pub fn index_from(s: &[u8], at: usize, b: u8) -> usize
     ensures { result ≡ at + index_of b (drop at s.now) }
 {
-    for i in at..s.len() {
-        if s[i] == b {
-            return i;
-        }
-    }
-    at.max(s.len())
+    let rest = part(s, at, s.len());
+    at + rest.iter().position(|x| *x == b).unwrap_or(rest.len())
 }
 
 // The first LF at or after a place.

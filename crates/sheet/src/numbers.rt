@@ -3,13 +3,6 @@ ghost use Rattle.std.specs.Prelude.{◌≡◌, ◌-◌};
 ghost use Rattle.std.specs.Bool.{then_some};
 ghost use Rattle.sheet.specs.Number.{is_digit, digits_number, number_of};
 
-// A byte to reckon with.
-pub fn wide(b: u8) -> u64
-    ensures { result ≡ b }
-{
-    b as u64
-}
-
 // The value of a decimal digit.
 #[tactic(auto, unfolding(crate::specs::Number::is_digit))]
 pub fn digit(b: u8) -> Option<u32>

@@ -1,5 +1,6 @@
 // The next request of a file. Lines of the two common kinds, I and S, are read once, where they stand in the file. What
 // cannot be read so is left to the reader of any line: a reading here may fail for any reason, but must not be wrong.
+// `file` and `at` are no struct: it would be made anew at each place, and a slice from `at` on has no places in the file.
 ghost use Rattle.std.specs.Prelude.{◌≡◌, true, ◌≤◌, ◌-◌, get_or, IfSome, Some};
 ghost use Rattle.std.specs.Bool.{then_some};
 ghost use Rattle.sheet.specs.Number.{number_of};
@@ -11,12 +12,11 @@ use crate::Request;
 use crate::fields::COMMA;
 use crate::lines::{LF, LONGEST, part};
 use crate::numbers::digit;
+use crate::requests::{INPUT, SCAN, request_at};
+use crate::word_fields::{has_0x, hex_run};
 
 // The largest number that is read. A test against it is quicker here than `checked_mul` and `checked_add` of 32 bits are.
 const LARGEST: u64 = 4294967295;
-
-use crate::requests::{INPUT, SCAN, request_at};
-use crate::word_fields::{has_0x, hex_run};
 
 // Whether a place of a file has this byte.
 #[tactic(auto, unfolding(crate::specs::Places::is_at))]
@@ -26,7 +26,8 @@ pub fn is_at(file: &[u8], at: usize, b: u8) -> bool
     file.get(at) == Some(&b)
 }
 
-// The value of the digit that stands there.
+// The value of the digit that stands there. `hex_digit_at` differs in the digits: one function for both would take a closure to
+// its one line.
 #[tactic(auto, unfolding(crate::specs::Places::is_digit_at))]
 fn digit_at(file: &[u8], at: usize) -> Option<u32>
     ensures { result ≡ then_some (is_digit_at file.now at) (get_or file.now at 0 - 48) }
@@ -35,7 +36,8 @@ fn digit_at(file: &[u8], at: usize) -> Option<u32>
 }
 
 // The number at a place of a file. A 0 is read alone, so that no leading zero is taken: a digit after it stands where the
-// caller looks for the end of the field.
+// caller looks for the end of the field. `hex_run` limits the count of digits and this their value: one function for both would
+// take each difference as an argument.
 #[tactic(auto, unfolding(crate::specs::Places::Read))]
 fn number_at(file: &[u8], at: usize) -> Option<(u32, usize)>
     ensures { Read number_of file.now at result }
@@ -44,6 +46,7 @@ fn number_at(file: &[u8], at: usize) -> Option<(u32, usize)>
         return Some((0, at + 1));
     }
     let mut value: u64 = 0;
+    // no `for`: the place where the digits end is answered too
     let mut i = at;
     while let Some(digit) = digit_at(file, i) {
         value = value * 10 + digit as u64;

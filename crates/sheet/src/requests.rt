@@ -2,7 +2,7 @@
 ghost use Rattle.std.specs.Prelude.{◌≡◌, unwrap_or};
 ghost use Rattle.rules.specs.Numbers.{code_of};
 ghost use Rattle.sheet.specs.declared.Request.TheVariants.{Refused};
-ghost use Rattle.sheet.specs.Grammar.{letter_of, number_in, word_in, motor_of, input_of, scan_of, request_of, next_at, request_refusal};
+ghost use Rattle.sheet.specs.Grammar.{letter_of, motor_of, input_of, scan_of, request_of, next_at, request_refusal};
 
 use crate::fields::{count_fields, field};
 use crate::lines::{next_line, part};
@@ -29,51 +29,35 @@ fn letter(field: &[u8]) -> u8
     }
 }
 
-// The number that a field of a line says.
-#[tactic(auto, unfolding(crate::specs::Grammar::number_in))]
-fn number(line: &[u8], k: usize) -> Option<u32>
-    ensures { result ≡ number_in line.now k }
-{
-    read_number(field(line, k))
-}
-
-// The word that it says.
-#[tactic(auto, unfolding(crate::specs::Grammar::word_in))]
-fn word(line: &[u8], k: usize) -> Option<u32>
-    ensures { result ≡ word_in line.now k }
-{
-    read_word(field(line, k))
-}
-
-#[tactic(auto, unfolding(crate::specs::Grammar::motor_of, crate::specs::Grammar::motor_from, crate::specs::Grammar::with_value))]
+#[tactic(auto, unfolding(crate::specs::Grammar::motor_of, crate::specs::Grammar::number_in, crate::specs::Grammar::word_in, crate::specs::Grammar::motor_from, crate::specs::Grammar::with_value))]
 fn motor(line: &[u8]) -> Option<Request>
     ensures { unwrap_or result Refused ≡ motor_of line.now }
 {
     Some(Request::Motor {
-        number: number(line, 1)?,
-        ops1: word(line, 2)?,
-        ops2: word(line, 3)?,
-        w: number(line, 4)?,
-        u: number(line, 5)?,
+        number: read_number(field(line, 1))?,
+        ops1: read_word(field(line, 2))?,
+        ops2: read_word(field(line, 3))?,
+        w: read_number(field(line, 4))?,
+        u: read_number(field(line, 5))?,
     })
 }
 
-#[tactic(auto, unfolding(crate::specs::Grammar::input_of, crate::specs::Grammar::input_from, crate::specs::Grammar::with_value))]
+#[tactic(auto, unfolding(crate::specs::Grammar::input_of, crate::specs::Grammar::number_in, crate::specs::Grammar::word_in, crate::specs::Grammar::input_from, crate::specs::Grammar::with_value))]
 fn input(line: &[u8]) -> Option<Request>
     ensures { unwrap_or result Refused ≡ input_of line.now }
 {
     Some(Request::Input {
-        number: number(line, 1)?,
-        word: word(line, 2)?,
+        number: read_number(field(line, 1))?,
+        word: read_word(field(line, 2))?,
     })
 }
 
-#[tactic(auto, unfolding(crate::specs::Grammar::scan_of, crate::specs::Grammar::scan_from, crate::specs::Grammar::with_value))]
+#[tactic(auto, unfolding(crate::specs::Grammar::scan_of, crate::specs::Grammar::number_in, crate::specs::Grammar::scan_from, crate::specs::Grammar::with_value))]
 fn scan(line: &[u8]) -> Option<Request>
     ensures { unwrap_or result Refused ≡ scan_of line.now }
 {
     Some(Request::Scan {
-        period: number(line, 1)?,
+        period: read_number(field(line, 1))?,
     })
 }
 

@@ -18,16 +18,7 @@ fn word_at(s: &[u8], i: usize) -> u64
     requires { i + 8 ≤ length s.now }
     ensures { bytes_of 8 result ≡ between i (i + 8) s.now }
 {
-    u64::from_le_bytes([
-        s[i],
-        s[i + 1],
-        s[i + 2],
-        s[i + 3],
-        s[i + 4],
-        s[i + 5],
-        s[i + 6],
-        s[i + 7],
-    ])
+    u64::from_le_bytes(*s[i..i + 8].first_chunk().unwrap())
 }
 
 // Whether one of a word's eight bytes is LF, all tested at once. In each byte the low seven bits become 0 exactly if they are
@@ -46,7 +37,7 @@ pub fn lf_from(s: &[u8], at: usize) -> usize
 {
     // places from which eight bytes stand
     let places = s.len().saturating_sub(7);
-    // no `for`: what follows needs the place at which the loop ends
+    // no `for`, nor `find` over `step_by(8)`: what follows needs the place at which the loop ends, also where no word has an LF
     let mut i = at;
     while i < places {
         if has_lf(word_at(s, i)) {

@@ -5,7 +5,7 @@ ghost use Rattle.sheet.specs.WordField.{is_hex_digit, hex_digit, hex_number, has
 ghost use Rattle.sheet.specs.Places.{hex_digit_at, hex_run_at};
 
 use crate::lines::part;
-use crate::numbers::read_number;
+use crate::numbers::{digit, read_number};
 
 // How many hexadecimal digits a word may have.
 const MOST_DIGITS: usize = 8;
@@ -16,13 +16,12 @@ fn hex_digit(b: u8) -> Option<u32>
     ensures { result ≡ then_some (is_hex_digit b) (hex_digit b) }
 {
     match b {
-        b'0'..=b'9' => Some((b - b'0') as u32),
         b'A'..=b'F' => Some((b - b'A') as u32 + 10),
-        _ => None,
+        _ => digit(b),
     }
 }
 
-// The value of the digit at a place.
+// The value of the digit at a place (why it is not one with `digit_at` stands there).
 #[tactic(auto, unfolding(crate::specs::Places::hex_digit_at))]
 fn hex_digit_at(s: &[u8], at: usize) -> Option<u32>
     ensures { result ≡ hex_digit_at s.now at }
@@ -30,11 +29,13 @@ fn hex_digit_at(s: &[u8], at: usize) -> Option<u32>
     hex_digit(*s.get(at)?)
 }
 
-// The digits from a place on, up to a byte that is none, if they are as many as a word may have.
+// The digits from a place on, up to a byte that is none, if they are as many as a word may have. Eight never exceed 32 bits, and
+// zeros may lead: so it is not one with `number_at`, where the value is tested and a 0 stands alone.
 pub fn hex_run(s: &[u8], at: usize) -> Option<(u32, usize)>
     ensures { result ≡ hex_run_at s.now at }
 {
     let mut value: u32 = 0;
+    // no `for`: the place where the digits end is answered too
     let mut i = at;
     while let Some(digit) = hex_digit_at(s, i) {
         if i - at == MOST_DIGITS {

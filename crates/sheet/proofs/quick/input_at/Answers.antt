@@ -2,7 +2,7 @@ use mathlib.Core.Path.{◌∙◌, sym}
 use native.Mathlib.Omega.{arith}
 use Rattle.sheet.specs.Split.{comma}
 use Rattle.sheet.specs.Grammar.{letter_i}
-use Rattle.sheet.specs.Places.{Read}
+use Rattle.sheet.specs.Places.{Read, NumberRead}
 use Rattle.sheet.proofs.PlaceLaws.{byte_at, number_said, parted, begun_inside, ended_inside, input_next}
 use Rattle.sheet.proofs.quick.input_at.Goals as goal
 
@@ -24,4 +24,5 @@ overflow_add-result c = omega (arith, ended_inside _ _ _ (sym c.ends_line.ensure
 pub returns : goal.returns
 unfolding Read
 returns c =
-    input_next c.args.file.now c.args.at c.requires c.in_ok-number.ensures (sym c.is_at.ensures ∙ c.if-not-is_at.false) c.in_ok-word.ensures (sym c.ends_line.ensures ∙ c.if-not-ends_line.false)
+    let read : NumberRead c.args.file.now c.args.at c.in_ok-number.number c.in_ok-number.parting = record { begins = c.requires; number_said = c.in_ok-number.ensures; parted = sym c.is_at.ensures ∙ c.if-not-is_at.false } in
+    input_next c.args.file.now c.args.at read c.in_ok-word.ensures (sym c.ends_line.ensures ∙ c.if-not-ends_line.false)
