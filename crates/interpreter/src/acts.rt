@@ -24,7 +24,7 @@ pub fn is_too_long(length: usize) -> bool
     LARGEST_FILE < length
 }
 
-// The number after n, of a scan or a line.
+// The number after n, of a scan or a line. Its definition is not that of a sum of the totals, so it goes by the library as `totals::plus` does.
 #[tactic(auto, unfolding(crate::specs::State::next_number))]
 pub fn next_number(n: u32) -> u32
     ensures { result ≡ next_number n }
@@ -79,7 +79,7 @@ fn count_scan(totals: &mut [Totals], before: &[Motor], after: &[Motor], words: &
     requires stepped { after.now ≡ step_all before.now words.now period }
     ensures { totals.new ≡ all_totals totals.old before.now words.now period }
 {
-    // by index: in a walk over all four side by side a proof has no name for the totals counted so far
+    // by index; tried: a walk over all four side by side doesn't prove, since its invariant has no name for the totals counted so far
     for i in 0..totals.len() {
         let was = before[i];
         let reading = read(was.settings, words[i]);
@@ -169,8 +169,8 @@ impl Bench {
         ensures { Acts self.old (S period) result self.new }
     {
         let held = self.held();
-        // The totals go by the motors before the scan. Whole copies, since behind `&mut self` no field is read while another is lent; no
-        // line of a run pays for them, as the programs scan in loops of their own.
+        // The totals go by the motors before the scan. Two copies, since the check lets no field behind `&mut self` be read while another
+        // is lent; no scan of a run pays for them, as the programs scan in loops of their own.
         let before = *self;
         table::scan(&mut self.motors[..held], &before.words[..held], period)?;
         let after = self.motors;
