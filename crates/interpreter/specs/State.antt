@@ -1,10 +1,12 @@
 -- The state of a bench, and what the request of a line does to it: the paper's "The bench program's file", and its "Order" for M, I and S.
 -- A refused line leaves the state as it was; 0 is an accepted line.
-use Rattle.std.specs.Prelude.{ℕ, ◌+◌, ◌-◌, min, Bool, true, not, ◌&&◌, List, [], ◌∷◌, ◌++◌, eqb, leb, ltb, length, take, set}
+use Rattle.std.specs.Prelude.{ℕ, ◌+◌, ◌-◌, ◌≡◌, min, Bool, true, not, ◌&&◌, List, [], ◌∷◌, ◌++◌, eqb, leb, ltb, length, take, set, Result, OnErr}
 use Rattle.words.specs.Word.{when◌then◌else◌}
 use Rattle.rules.specs.declared.Settings.{Settings}
 use Rattle.rules.specs.declared.Motor.{Motor}
 use Rattle.rules.specs.Record.{fresh}
+use Rattle.rules.specs.declared.Refusal.{Refusal}
+use Rattle.rules.specs.Numbers.{code_of}
 use Rattle.rules.specs.Refusals.{most_motors, settings_in_range, word_ok, table_refusal, table_after}
 use Rattle.sheet.specs.declared.Request.{Request}
 use Rattle.sheet.specs.declared.Request.TheVariants.{Motor as M, Input as I, Scan as S, Refused}
@@ -123,3 +125,9 @@ view_of b =
 -- How many motors a bench has: a count past its arrays counts as all of them.
 abbrev pub held_of : Bench → ℕ
 held_of b = min b.count most_motors
+
+-- A request does to a bench what it does to its state. A refused one leaves it as it was, what lies past its motors too.
+pub record Acts (before : Bench) (request : Request) (result : Result Unit Refusal) (after : Bench) : Type 0 where
+  pub refusal : code_of result ≡ refusal_for (view_of before) request
+  pub state : view_of after ≡ state_after (view_of before) request
+  pub unchanged : OnErr result (after ≡ before)

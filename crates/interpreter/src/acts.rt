@@ -1,9 +1,9 @@
 // What a request does to a bench.
-ghost use Rattle.std.specs.Prelude.{◌≡◌, ◌≤◌, length, OnErr};
+ghost use Rattle.std.specs.Prelude.{◌≡◌, ◌≤◌, length};
 ghost use Rattle.rules.specs.Numbers.{code_of};
 ghost use Rattle.rules.specs.Refusals.{most_motors, step_all};
 ghost use Rattle.totals.specs.Running.{all_totals};
-ghost use Rattle.interpreter.specs.State.{empty_state, next_number, motor_refusal, input_refusal, is_there, refusal_for, state_after, view_of, held_of, too_long};
+ghost use Rattle.interpreter.specs.State.{Acts, empty_state, next_number, motor_refusal, input_refusal, is_there, refusal_for, view_of, held_of, too_long};
 ghost use Rattle.sheet.specs.declared.Request.TheVariants.{Motor as M, Input as I, Scan as S};
 
 use crate::Bench;
@@ -24,7 +24,7 @@ pub fn is_too_long(length: usize) -> bool
     LARGEST_FILE < length
 }
 
-// The number after n, of a scan or a line.
+// The number after n, of a scan or a line. Its definition is not that of a sum of the totals, so it goes by the library as `totals::plus` does.
 #[tactic(auto, unfolding(crate::specs::State::next_number))]
 pub fn next_number(n: u32) -> u32
     ensures { result ≡ next_number n }
@@ -79,7 +79,7 @@ fn count_scan(totals: &mut [Totals], before: &[Motor], after: &[Motor], words: &
     requires stepped { after.now ≡ step_all before.now words.now period }
     ensures { totals.new ≡ all_totals totals.old before.now words.now period }
 {
-    // by index: in a walk over all four side by side a proof has no name for the totals counted so far
+    // by index; tried: a walk over all four side by side doesn't prove, since its invariant has no name for the totals counted so far
     for i in 0..totals.len() {
         let was = before[i];
         let reading = read(was.settings, words[i]);
@@ -114,9 +114,7 @@ impl Bench {
     // What a request makes of it. A refused one leaves it as it was.
     #[tactic(auto, using(crate::proofs::ActLaws::refused), unfolding(crate::specs::State::refusal_for, sheet::specs::Grammar::request_refusal))]
     pub fn act(&mut self, request: Request) -> Result<(), Refusal>
-        ensures refusal { code_of result ≡ refusal_for (view_of self.old) request }
-        ensures state { view_of self.new ≡ state_after (view_of self.old) request }
-        ensures unchanged { OnErr result (self.new ≡ self.old) }
+        ensures { Acts self.old request result self.new }
     {
         match request {
             Request::Motor {
@@ -135,9 +133,7 @@ impl Bench {
     // M: a fresh motor, which holds the word 0, after those that are there.
     #[tactic(auto, using(crate::proofs::ActLaws::adds), unfolding(crate::specs::State::refusal_for, rules::specs::Refusals::most_motors))]
     fn add(&mut self, number: u32, settings: Settings) -> Result<(), Refusal>
-        ensures refusal { code_of result ≡ refusal_for (view_of self.old) (M number settings.ops1 settings.ops2 settings.w settings.u) }
-        ensures state { view_of self.new ≡ state_after (view_of self.old) (M number settings.ops1 settings.ops2 settings.w settings.u) }
-        ensures unchanged { OnErr result (self.new ≡ self.old) }
+        ensures { Acts self.old (M number settings.ops1 settings.ops2 settings.w settings.u) result self.new }
     {
         let at = self.held();
         accept_motor(at, self.scans, number, settings)?;
@@ -151,9 +147,7 @@ impl Bench {
     // I: the word that a motor holds from now on.
     #[tactic(auto, using(crate::proofs::ActLaws::sets), unfolding(crate::specs::State::refusal_for, rules::specs::Refusals::most_motors))]
     fn set_word(&mut self, number: u32, word: u32) -> Result<(), Refusal>
-        ensures refusal { code_of result ≡ refusal_for (view_of self.old) (I number word) }
-        ensures state { view_of self.new ≡ state_after (view_of self.old) (I number word) }
-        ensures unchanged { OnErr result (self.new ≡ self.old) }
+        ensures { Acts self.old (I number word) result self.new }
     {
         accept_input(self.held(), number, word)?;
         self.words[number as usize - 1] = word;
@@ -172,12 +166,11 @@ impl Bench {
     // S: the table's scan.
     #[tactic(auto, using(crate::proofs::ActLaws::scans), unfolding(rules::specs::Refusals::most_motors))]
     fn scan(&mut self, period: u32) -> Result<(), Refusal>
-        ensures refusal { code_of result ≡ refusal_for (view_of self.old) (S period) }
-        ensures state { view_of self.new ≡ state_after (view_of self.old) (S period) }
-        ensures unchanged { OnErr result (self.new ≡ self.old) }
+        ensures { Acts self.old (S period) result self.new }
     {
         let held = self.held();
-        // the totals go by the motors before the scan
+        // The totals go by the motors before the scan. Two copies, since the check lets no field behind `&mut self` be read while another
+        // is lent; no scan of a run pays for them, as the programs scan in loops of their own.
         let before = *self;
         table::scan(&mut self.motors[..held], &before.words[..held], period)?;
         let after = self.motors;

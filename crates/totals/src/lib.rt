@@ -31,7 +31,7 @@ pub fn none() -> Totals
     Totals::default()
 }
 
-// A sum, or the largest number of 32 bits where that is less.
+// A sum, or the largest number of 32 bits where that is less: the library's sum, with the definition's name.
 #[tactic(auto, unfolding(crate::specs::Running::capped))]
 pub fn plus(a: u32, b: u32) -> u32
     ensures { result ≡ capped (a + b) }
