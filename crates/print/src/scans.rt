@@ -16,6 +16,7 @@ use status::switches::{position_read, read};
 use totals::Totals;
 
 // A motor's line after a scan.
+#[tactic(auto, unfolding(crate::specs::Print::motor_row))]
 fn row(scan: u32, number: u32, m: Motor) -> Row
     ensures { result ≡ motor_row scan number m }
 {
