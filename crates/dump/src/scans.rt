@@ -45,7 +45,8 @@ fn scan(motors: &mut [Motor], words: &[u32], period: u32)
 }
 
 impl Recording {
-    // The I and S lines from here on, up to the first line that is refused or of another kind, and as long as there is room.
+    // The I and S lines from here on, up to the first line that is refused or of another kind, and as long as there is room. It is a function
+    // of its own beside the print's, which prints each motor as it is scanned: here all outputs are compared after a scan.
     #[tactic(auto, unfolding(rules::specs::Refusals::most_motors))]
     pub(crate) fn scan_lines(&mut self, file: &[u8], page: &mut Page)
         requires { refusal_for (view_of self.old.bench) (S 1) ≡ 0 }

@@ -73,6 +73,7 @@ impl Outputs {
     {
         let held = motors.len();
         let mut states = [0; MOST_MOTORS];
+        // by index: collecting takes a heap
         for i in 0..held {
             states[i] = motors[i].output.state;
         }
@@ -151,6 +152,7 @@ impl Outputs {
     {
         let old = before.states();
         let new = self.states();
+        // by index: the signals' codes go by it
         for i in 0..old.len().min(new.len()) {
             put_change(page, code(2 * i), old[i] == 1, new[i] == 1);
             put_change(page, code(2 * i + 1), old[i] == 2, new[i] == 2);

@@ -16,6 +16,7 @@ pub fn none() -> Output
     Output::default()
 }
 
+// The output that a command raises, and the one that it drops: each has its name in the steps.
 pub fn own(c: u32) -> u32
     ensures { result ≡ own_output c }
 {

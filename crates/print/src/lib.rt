@@ -9,7 +9,8 @@ mod tests;
 
 use interpreter::Bench;
 
-// A bench at a place of a file, where the line of this number begins. A place past the file's end: all is printed.
+// A bench at a place of a file, where the line of this number begins. A place past the file's end: all is printed;
+// as an Option it would be asked for at each line.
 #[derive(Clone, Copy)]
 pub struct Sitting {
     pub bench: Bench,

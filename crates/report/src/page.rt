@@ -1,4 +1,5 @@
 // A lent buffer and the place up to which it is filled. What is put goes there, as much of it as finds room; specs/Puts.antt says so.
+// Lines are put by methods and not through Display, since no clause says what bytes a formatter puts.
 ghost use Rattle.std.specs.Prelude.{◌≡◌, ◌-◌, [], ◌∷◌, take, length};
 ghost use Rattle.report.specs.Print.{decimal, line_of, totals_row_of, refusal_of};
 ghost use Rattle.report.specs.Puts.{Puts};
@@ -118,7 +119,7 @@ impl<'a> Page<'a> {
         self.line(b'T', &numbers)
     }
 
-    // E,line,refusal
+    // E,line,refusal: any number, as what is printed is no matter of who refuses
     #[tactic(auto, unfolding(crate::specs::Print::refusal_of))]
     pub fn refusal(&mut self, line: u32, refusal: u32)
         ensures { Puts self.old (refusal_of line refusal) self.new }

@@ -11,7 +11,8 @@ pub const LF: u8 = b'\n';
 // How many bytes a line may have without its LF.
 pub const LONGEST: usize = 80;
 
-// The first place from `at` on that has the byte b; the end of s, or `at` past it, if none has.
+// The first place from `at` on that has the byte b; the end of s, or `at` past it, if none has. A place either way, and no Option:
+// the search by words goes on from one, and `find_lf` makes the Option.
 pub fn index_from(s: &[u8], at: usize, b: u8) -> usize
     ensures { result ≡ at + index_of b (drop at s.now) }
 {

@@ -18,7 +18,7 @@ pub const INPUT: u8 = b'I';
 
 pub const SCAN: u8 = b'S';
 
-// The byte of a field of one byte, and 0 of any other.
+// The byte of a field of one byte, and 0 of any other: a number, as in its definition, and the letter of no kind of line.
 #[tactic(auto, unfolding(words::specs::Opened::choices, crate::specs::Grammar::letter_of))]
 fn letter(field: &[u8]) -> u8
     ensures { result ≡ letter_of field.now }

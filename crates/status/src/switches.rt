@@ -67,7 +67,7 @@ pub fn read(s: Settings, word: u32) -> Reading
     }
 }
 
-// The position read: 1 Off, 2 On, 0 if it is unsure.
+// The position read, by the number that a record has for it: 1 Off, 2 On, 0 if it is unsure.
 pub fn position_read(r: Reading) -> u32
     ensures { result ≡ position_read r }
 {

@@ -17,7 +17,7 @@ pub enum Wire {
     Off,
 }
 
-// The header before its wires, and after them.
+// The header before its wires, and after them: each its own text, in one line.
 #[tactic(auto, unfolding(crate::specs::Opened::opened))]
 pub fn put_frame_start(page: &mut Page)
     ensures { Puts page.old frame_start page.new }
