@@ -32,7 +32,8 @@ fn stepped(m: Motor, word: u32, period: u32) -> Motor
     motor::scan(m, word, period).unwrap_or(m)
 }
 
-// A scan of the motors in use, which is accepted: each is scanned where it stands, since a bench is dear to copy.
+// A scan of the motors in use, which is accepted: each is scanned where it stands, since a bench is dear to copy. It is not `table::scan`, which
+// tests their range again, and takes a motor at rest through all steps.
 #[tactic(auto, using(crate::proofs::AdvanceLaws::word_there, rules::proofs::Tables::none_stepped, crate::proofs::AdvanceLaws::turn_due, crate::proofs::AdvanceLaws::one_stepped, crate::proofs::AdvanceLaws::all_stepped))]
 fn scan(motors: &mut [Motor], words: &[u32], period: u32)
     requires { table_refusal motors.old words.now period ≡ 0 }

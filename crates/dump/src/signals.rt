@@ -152,7 +152,6 @@ impl Outputs {
     {
         let old = before.states();
         let new = self.states();
-        // by index: the signals' codes go by it
         for i in 0..old.len().min(new.len()) {
             put_change(page, code(2 * i), old[i] == 1, new[i] == 1);
             put_change(page, code(2 * i + 1), old[i] == 2, new[i] == 2);

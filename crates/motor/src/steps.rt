@@ -70,7 +70,7 @@ pub fn issue_command(m: Motor, c: u32) -> Motor
     }
 }
 
-// Step 9: c is 0, as in a record, where no command is issued.
+// Step 9: c is 0 where no command is issued.
 pub fn issue_any(m: Motor, c: u32) -> Motor
     ensures { result ≡ step9 m c }
 {

@@ -9,7 +9,7 @@ use lib.Dec.{ltb}
 use borrow.Author.Tests.{ltb-true, ltb-false}
 use Rattle.words.specs.Word.{when◌then◌else◌}
 use Rattle.report.specs.Print.{refusal_of}
-use Rattle.interpreter.specs.State.{empty_state, too_long}
+use Rattle.interpreter.specs.State.{empty_state, view_of, too_long}
 use Rattle.report.specs.Puts.{Puts}
 use Rattle.report.specs.declared.page.Page.{Page}
 use Rattle.course.specs.Walk.{Leads, Begin}
@@ -41,3 +41,8 @@ calls_print b calls = let (t, through, past) = all_through calls in whole t b th
 -- what `begin` leaves
 pub begun : {file : List ℕ} {s : Sitting} {page after : Page} → Beginning file s → Puts page (opening file) after → Begin print_walk file s page after
 begun b p = record { put = p; begins = b; whole = λ {piece} {d} through past. whole d b through past }
+
+pub begun_long : {file : List ℕ} {s : Sitting} {page after : Page} → view_of s.bench ≡ empty_state → too_long (length file) ≡ true → s.at ≡ length file + 1 → s.line ≡ 1
+    → Puts page (refusal_of 0 1) after → Begin print_walk file s page after
+unfolding opening when◌then◌else◌
+begun_long e h at line p = begun (record { at = rw h at; state = e; line = line }) (rw h p)

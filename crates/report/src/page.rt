@@ -1,5 +1,5 @@
 // A lent buffer and the place up to which it is filled. What is put goes there, as much of it as finds room; specs/Puts.antt says so.
-// Lines are put by methods and not through Display, since no clause says what bytes a formatter puts.
+// Lines are put by methods and not through Display: a put cannot fail, where each call of a formatter answers a Result.
 ghost use Rattle.std.specs.Prelude.{◌≡◌, ◌-◌, [], ◌∷◌, take, length};
 ghost use Rattle.report.specs.Print.{decimal, line_of, totals_row_of, refusal_of};
 ghost use Rattle.report.specs.Puts.{Puts};

@@ -8,7 +8,7 @@ use native.Mathlib.Omega.{arith}
 use lib.ListN.{length, drop, get_or, length-append, length-take, length-drop, take-append-drop}
 use lib.Seq.{length-take-le, drop-cons, take-suc, drop-drop, take_at, get_or-drop, get_or-take}
 use lib.Dec.{eqb, leb, ltb}
-use borrow.Author.Tests.{eq-eqb, eqb-true, lt-ltb, ltb-true}
+use borrow.Author.Tests.{eq-eqb, eqb-true, lt-ltb, ltb-true, ltb-false}
 use Rattle.words.proofs.Laws.{and_true}
 use Rattle.words.specs.Word.{when◌then◌else◌}
 use Rattle.sheet.specs.Split.{LF, comma, joined, index_of, between, field_of, field_count}
@@ -122,6 +122,18 @@ module _ (file : List ℕ) (at : ℕ) where
         within = omega (arith, d.within);
         says = spells_number (record { some = omega arith; digits = d.digits; value = d.says; plain = λ k. omega (arith, o) }) h;
       }
+
+  -- and by a value that is none of no digits
+  pub digits_number_lem : {value i : ℕ} → Digits file at value i → is_at file at 48 ≡ false → (value ≡ 0 → ⊥) → value ≤ largest
+      → SaidAt number_of file at value i
+  unfolding value_from
+  digits_number_lem {value} {i} d z n h = digits_said d z (go (ltb at i) refl) h
+    where
+      go : (t : Bool) → ltb at i ≡ t → at < i
+      go true e = ltb-true at i e
+      go false e =
+          let same : i ≡ at = omega (arith, d.from, ltb-false at i e) in
+          absurd (n (sym d.says ∙ rw (same, between_none file at) refl))
 
   -- no digit but one that is read alone says nothing
   pub digits_read : {value i : ℕ} → Digits file at value i → is_at file at 48 ≡ false → value ≤ largest → Read number_of file at (then_some (ltb at i) (value, i))

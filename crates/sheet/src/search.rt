@@ -31,13 +31,14 @@ fn has_lf(w: u64) -> bool
     ((((w & LOW_BITS) ^ LFS) + LOW_BITS) | w | LOW_BITS) != ALL_BITS
 }
 
-// The first LF at `at` or after it; the end of s, or `at` past it, if there is none.
+// The first LF at `at` or after it; the end of s, or `at` past it, if there is none: a place, as `index_from` answers, of which `find_lf`
+// makes the Option.
 pub fn lf_from(s: &[u8], at: usize) -> usize
     ensures { result ≡ at + index_of LF (drop at s.now) }
 {
     // places from which eight bytes stand
     let places = s.len().saturating_sub(7);
-    // no `for`, nor `find` over `step_by(8)`: what follows needs the place at which the loop ends, also where no word has an LF
+    // no `find` over `step_by(8)`: what follows needs a place also where no word has an LF, which would have to be made up
     let mut i = at;
     while i < places {
         if has_lf(word_at(s, i)) {

@@ -90,7 +90,7 @@ pub fn is_candidate(s: Settings, v: Status, word: u32, c: u32) -> bool
     false
 }
 
-// The strongest candidate, or 0, the number that a record has for no command.
+// The strongest candidate, or 0, the number of no command in the tables and tests that take what is chosen.
 pub fn choice(s: Settings, v: Status, word: u32) -> u32
     ensures { result ≡ chosen s v word }
 {
@@ -121,7 +121,7 @@ pub fn is_issued(v: Status, new: u32) -> bool
     }
 }
 
-// Step 8: the command that is issued, or 0, which goes into the record as it is.
+// Step 8: the command that is issued, or 0.
 pub fn to_issue(s: Settings, v: Status, word: u32) -> u32
     ensures { result ≡ issued s v word }
 {
