@@ -3,7 +3,6 @@
 
 ghost use Rattle.std.specs.Prelude.{◌≡◌, true};
 ghost use Rattle.rules.specs.Record.{fresh};
-ghost use Rattle.rules.specs.Numbers.{code_of};
 ghost use Rattle.rules.specs.Refusals.{one_after};
 
 use motor::{accept, scan};
@@ -23,13 +22,6 @@ fn after_three(a: u32, b: u32, c: u32, period: u32) -> Motor
     let first = scan(fresh, a, 100).unwrap_or(fresh);
     let second = scan(first, b, 100).unwrap_or(first);
     scan(second, c, period).unwrap_or(second)
-}
-
-// What a scan is refused for, by its number, or 0.
-fn code(accepted: Result<(), Refusal>) -> u32
-    ensures { result ≡ code_of accepted }
-{
-    accepted.err().map_or(0, u32::from)
 }
 
 #[tactic(auto, unfolding(rules::specs::Opened::opened))]
@@ -62,7 +54,7 @@ fn refused() -> bool
     ensures { result ≡ true }
 {
     let m = after_three(32, 4128, 131072, 100);
-    (m.status.command == 7) & (code(accept(m, 131072, 10000)) == 3)
+    (m.status.command == 7) & (accept(m, 131072, 10000) == Err(Refusal::Word))
 }
 
 #[tactic(auto, unfolding(rules::specs::Opened::opened))]
@@ -71,7 +63,8 @@ fn refused_by_order() -> bool
 {
     let m = after_three(32, 4128, 16, 100);
     let broken = Motor { sum: 600000, ..m };
-    (code(accept(m, 131072, 10001)) == 2) & (code(accept(broken, 131072, 10001)) == 6)
+    (accept(m, 131072, 10001) == Err(Refusal::Period))
+        & (accept(broken, 131072, 10001) == Err(Refusal::Record))
 }
 
 fn main() {

@@ -4,15 +4,21 @@
 
 ghost use Rattle.std.specs.Prelude.{◌≡◌, true, replicate};
 ghost use Rattle.rules.specs.Record.{fresh};
+ghost use Rattle.rules.specs.Numbers.{code_of};
 ghost use Rattle.rules.specs.Refusals.{part_refusal, part_after};
 
-use rules::{Motor, Settings};
+use rules::{Motor, Refusal, Settings};
 use table::MOST_MOTORS;
 
-// The first `count` of 32 motors with the paper's settings but for OPS_1, fresh, through one scan: the number of its refusal, or 0,
+// The first `count` of 32 motors with the paper's settings but for OPS_1, fresh, through one scan: whether it is accepted,
 // and the motors after it.
-fn scan_fresh(ops1: u32, count: usize, word: u32, period: u32) -> (u32, [Motor; MOST_MOTORS])
-    ensures { (result.0 ≡ part_refusal (replicate 32 (fresh (record { ops1 = ops1; ops2 = 0; w = 500; u = 300 }))) count (replicate 32 word) period) × (result.1 ≡ part_after (replicate 32 (fresh (record { ops1 = ops1; ops2 = 0; w = 500; u = 300 }))) count (replicate 32 word) period) }
+fn scan_fresh(
+    ops1: u32,
+    count: usize,
+    word: u32,
+    period: u32,
+) -> (Result<(), Refusal>, [Motor; MOST_MOTORS])
+    ensures { (code_of result.0 ≡ part_refusal (replicate 32 (fresh (record { ops1 = ops1; ops2 = 0; w = 500; u = 300 }))) count (replicate 32 word) period) × (result.1 ≡ part_after (replicate 32 (fresh (record { ops1 = ops1; ops2 = 0; w = 500; u = 300 }))) count (replicate 32 word) period) }
 {
     let s = Settings {
         ops1,
@@ -22,10 +28,7 @@ fn scan_fresh(ops1: u32, count: usize, word: u32, period: u32) -> (u32, [Motor; 
     };
     let motors = [motor::fresh(s); MOST_MOTORS];
     let scanned = table::scan_array(motors, count, [word; MOST_MOTORS], period);
-    (
-        scanned.err().map_or(0, u32::from),
-        scanned.unwrap_or(motors),
-    )
+    (scanned.map(|_| ()), scanned.unwrap_or(motors))
 }
 
 // A full table: the first motor and the last are scanned.
@@ -33,8 +36,8 @@ fn scan_fresh(ops1: u32, count: usize, word: u32, period: u32) -> (u32, [Motor; 
 fn full() -> bool
     ensures { result ≡ true }
 {
-    let (refusal, u) = scan_fresh(193, 32, 4128, 100);
-    (refusal == 0) & (u[0].status.command == 7) & (u[31].status.command == 7)
+    let (accepted, u) = scan_fresh(193, 32, 4128, 100);
+    accepted.is_ok() & (u[0].status.command == 7) & (u[31].status.command == 7)
 }
 
 // Part of one: the motor past it stays.
@@ -42,8 +45,8 @@ fn full() -> bool
 fn part() -> bool
     ensures { result ≡ true }
 {
-    let (refusal, u) = scan_fresh(193, 2, 4128, 100);
-    (refusal == 0) & (u[1].status.command == 7) & (u[2].status.command == 0)
+    let (accepted, u) = scan_fresh(193, 2, 4128, 100);
+    accepted.is_ok() & (u[1].status.command == 7) & (u[2].status.command == 0)
 }
 
 // No motor at all.
@@ -51,8 +54,8 @@ fn part() -> bool
 fn empty() -> bool
     ensures { result ≡ true }
 {
-    let (refusal, u) = scan_fresh(193, 0, 4128, 100);
-    (refusal == 0) & (u[0].status.previous == 0)
+    let (accepted, u) = scan_fresh(193, 0, 4128, 100);
+    accepted.is_ok() & (u[0].status.previous == 0)
 }
 
 // Refused scans, by the order of refusals: nothing is changed.
@@ -60,32 +63,32 @@ fn empty() -> bool
 fn one_too_many() -> bool
     ensures { result ≡ true }
 {
-    let (refusal, u) = scan_fresh(65536, 33, 131072, 0);
-    (refusal == 1) & (u[0].status.previous == 0)
+    let (accepted, u) = scan_fresh(65536, 33, 131072, 0);
+    (accepted == Err(Refusal::Size)) & (u[0].status.previous == 0)
 }
 
 #[tactic(auto, unfolding(rules::specs::Opened::opened))]
 fn out_of_range() -> bool
     ensures { result ≡ true }
 {
-    let (refusal, u) = scan_fresh(65536, 2, 131072, 0);
-    (refusal == 6) & (u[0].status.previous == 0)
+    let (accepted, u) = scan_fresh(65536, 2, 131072, 0);
+    (accepted == Err(Refusal::Record)) & (u[0].status.previous == 0)
 }
 
 #[tactic(auto, unfolding(rules::specs::Opened::opened))]
 fn no_period() -> bool
     ensures { result ≡ true }
 {
-    let (refusal, u) = scan_fresh(193, 2, 131072, 0);
-    (refusal == 2) & (u[0].status.previous == 0)
+    let (accepted, u) = scan_fresh(193, 2, 131072, 0);
+    (accepted == Err(Refusal::Period)) & (u[0].status.previous == 0)
 }
 
 #[tactic(auto, unfolding(rules::specs::Opened::opened))]
 fn no_word() -> bool
     ensures { result ≡ true }
 {
-    let (refusal, u) = scan_fresh(193, 2, 131072, 100);
-    (refusal == 3) & (u[0].status.previous == 0)
+    let (accepted, u) = scan_fresh(193, 2, 131072, 100);
+    (accepted == Err(Refusal::Word)) & (u[0].status.previous == 0)
 }
 
 fn main() {
