@@ -15,21 +15,19 @@ use report::Page;
 use rules::Motor;
 use status::switches::read;
 
-// A motor after a scan that is accepted. At rest it is reckoned by its status alone.
+// A motor through a scan that is accepted. At rest its status alone is reckoned, and written.
 #[tactic(auto, using(interpreter::proofs::ScanLaws::rested, rules::proofs::Tables::one_accepted), unfolding(rules::specs::Record::with_status))]
-fn stepped(m: Motor, word: u32, period: u32) -> Motor
-    requires { one_refusal m word period ≡ 0 }
-    ensures { result ≡ step m word period }
+fn step(m: &mut Motor, word: u32, period: u32)
+    requires { one_refusal m.old word period ≡ 0 }
+    ensures { m.new ≡ step m.old word period }
 {
     let settings = m.settings;
     let v = m.status;
     if motor::is_resting(settings, v, m.output, word) {
-        return Motor {
-            status: motor::rest(settings, v, word, read(settings, word)),
-            ..m
-        };
+        m.status = motor::rest(settings, v, word, read(settings, word));
+    } else {
+        *m = motor::scan(*m, word, period).unwrap_or(*m);
     }
-    motor::scan(m, word, period).unwrap_or(m)
 }
 
 // A scan of the motors in use, which is accepted: each is scanned where it stands, since a bench is dear to copy. It is not `table::scan`, which
@@ -41,7 +39,7 @@ fn scan(motors: &mut [Motor], words: &[u32], period: u32)
 {
     // of records that are lent behind an adapter, as zip, nothing would be known afterwards
     for i in 0..motors.len() {
-        motors[i] = stepped(motors[i], words[i], period);
+        step(&mut motors[i], words[i], period);
     }
 }
 

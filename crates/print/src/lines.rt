@@ -16,7 +16,7 @@ use sheet::next_request;
 use totals::Totals;
 use words::choose;
 
-// A motor's T line.
+// A motor's T line; no `From`, as for `row` of a scan.
 #[tactic(auto, unfolding(crate::specs::Print::totals_row, totals::specs::Totals::under_way_in, rules::specs::Record::idle))]
 fn totals_row(number: u32, m: Motor, t: Totals) -> TotalsRow
     ensures { result ≡ totals_row number (under_way_in m.status) t }

@@ -15,7 +15,7 @@ use rules::Motor;
 use status::switches::{position_read, read};
 use totals::Totals;
 
-// A motor's line after a scan.
+// A motor's line after a scan. No `From`: it would take the numbers of the scan and the motor in a tuple, where they have no names.
 #[tactic(auto, unfolding(crate::specs::Print::motor_row))]
 fn row(scan: u32, number: u32, m: Motor) -> Row
     ensures { result ≡ motor_row scan number m }

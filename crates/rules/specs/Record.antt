@@ -1,7 +1,8 @@
 -- A motor's settings, input word, commands and record: the paper's sections "A motor's settings and input" and "The record".
 -- All numbers are decimal, times are milliseconds. Letters: s settings, v status, o output, m record, c a command's number.
 -- `x.f` is field f of x; `&&` is and, `||` or, `&&` binds before `||`; `eqb a b` is a = b, `leb a b` is a ≤ b, `ltb a b` is a < b.
-use Rattle.std.specs.Prelude.{ℕ, ◌+◌, Bool, ◌||◌, List, [], ◌∷◌, eqb}
+use Rattle.std.specs.Prelude.{ℕ, ◌+◌, Bool, ◌||◌, List, [], ◌∷◌, eqb, not, Option}
+use Rattle.std.specs.Bool.{then_some}
 use Rattle.words.specs.Word.{when◌then◌else◌, is_set, rose}
 use Rattle.rules.specs.declared.Settings.{Settings}
 use Rattle.rules.specs.declared.Status.{Status}
@@ -109,6 +110,10 @@ ko_on = 7
 
 unfoldable pub commands : List ℕ
 commands = sma_off ∷ lz_off ∷ lz_on ∷ mu_off ∷ mu_on ∷ ko_off ∷ ko_on ∷ []
+
+-- A command as an `Option`: its number, or none
+abbrev pub command_of : ℕ → Option ℕ
+command_of c = then_some (not (eqb c no_command)) c
 
 -- The direction of a command; what is no command has none
 unfoldable pub direction : ℕ → ℕ

@@ -1,13 +1,14 @@
 -- Bytes and numbers where they stand in a file: what the functions promise that read a line once. The requests that they give are those
 -- of `next_at`; nothing here says more of the file.
-use Rattle.std.specs.Prelude.{ℕ, ◌+◌, ◌-◌, ◌≤◌, ◌≡◌, Bool, true, ◌&&◌, List, [], ◌∷◌, length, drop, get_or, eqb, leb, ltb, Option, Some, None}
+use Rattle.std.specs.Prelude.{ℕ, ◌+◌, ◌-◌, ◌≤◌, ◌≡◌, Bool, true, ◌&&◌, List, [], ◌∷◌, length, drop, get_or, eqb, leb, ltb, Option, Some, None, IfSome}
 use Rattle.std.specs.Bool.{then_some}
 use Rattle.words.specs.Word.{when◌then◌else◌}
 use Rattle.sheet.specs.Split.{LF, comma, between}
 use Rattle.sheet.specs.Lines.{longest}
 use Rattle.sheet.specs.Number.{is_digit, number_of}
 use Rattle.sheet.specs.WordField.{is_hex_digit, hex_digit, hex_from, is_hex_count}
-use Rattle.sheet.specs.Grammar.{letter_i}
+use Rattle.sheet.specs.Grammar.{letter_i, next_at}
+use Rattle.sheet.specs.declared.Request.{Request}
 
 -- A place has a byte, or a digit
 unfoldable pub is_at : List ℕ → ℕ → ℕ → Bool
@@ -54,3 +55,7 @@ pub record NumberRead (file : List ℕ) (at number parting : ℕ) : Type 0 where
   pub begins : begins_with file at letter_i ≡ true
   pub number_said : SaidAt number_of file (at + 2) number parting
   pub parted : is_at file parting comma ≡ true
+
+-- What is read of a line where it stands is the next request; nothing read tells nothing
+abbrev pub ReadsNext : List ℕ → ℕ → Option (Request × ℕ) → Type 0
+ReadsNext file at read = IfSome read (λ r. next_at file at ≡ Some r)

@@ -1,12 +1,12 @@
 // The next request of a file. Lines of the two common kinds, I and S, are read once, where they stand in the file. What
 // cannot be read so is left to the reader of any line: a reading here may fail for any reason, but must not be wrong.
 // `file` and `at` are no struct: it would be made anew at each place, and a slice from `at` on has no places in the file.
-ghost use Rattle.std.specs.Prelude.{◌≡◌, true, ◌≤◌, ◌-◌, get_or, IfSome, Some};
+ghost use Rattle.std.specs.Prelude.{◌≡◌, true, ◌≤◌, ◌-◌, get_or};
 ghost use Rattle.std.specs.Bool.{then_some};
 ghost use Rattle.sheet.specs.Number.{number_of};
 ghost use Rattle.sheet.specs.WordField.{word_of};
 ghost use Rattle.sheet.specs.Grammar.{letter_i, letter_s, next_at};
-ghost use Rattle.sheet.specs.Places.{is_at, is_digit_at, begins_with, ends_line, Read};
+ghost use Rattle.sheet.specs.Places.{is_at, is_digit_at, begins_with, ends_line, Read, ReadsNext};
 
 use crate::Request;
 use crate::fields::COMMA;
@@ -92,7 +92,7 @@ fn ends_line(file: &[u8], at: usize, end: usize) -> bool
 #[tactic(auto, using(crate::proofs::PlaceLaws::number_said, crate::proofs::PlaceLaws::begun_inside, crate::proofs::PlaceLaws::ended_inside, crate::proofs::PlaceLaws::scan_next), unfolding(crate::specs::Places::Read))]
 fn scan_at(file: &[u8], at: usize) -> Option<(Request, usize)>
     requires { begins_with file.now at letter_s ≡ true }
-    ensures { IfSome result (λ r. next_at file.now at ≡ Some r) }
+    ensures { ReadsNext file.now at result }
 {
     let (period, end) = number_at(file, at + 2)?;
     if !ends_line(file, at, end) {
@@ -104,7 +104,7 @@ fn scan_at(file: &[u8], at: usize) -> Option<(Request, usize)>
 // The request of a line that begins with an I.
 fn input_at(file: &[u8], at: usize) -> Option<(Request, usize)>
     requires { begins_with file.now at letter_i ≡ true }
-    ensures { IfSome result (λ r. next_at file.now at ≡ Some r) }
+    ensures { ReadsNext file.now at result }
 {
     let (number, parting) = number_at(file, at + 2)?;
     if !is_at(file, parting, COMMA) {
@@ -119,7 +119,7 @@ fn input_at(file: &[u8], at: usize) -> Option<(Request, usize)>
 
 // The request of a line of one of the two kinds, if it can be read so.
 fn quick_request(file: &[u8], at: usize) -> Option<(Request, usize)>
-    ensures { IfSome result (λ r. next_at file.now at ≡ Some r) }
+    ensures { ReadsNext file.now at result }
 {
     if begins_with(file, at, INPUT) {
         return input_at(file, at);
@@ -134,8 +134,5 @@ fn quick_request(file: &[u8], at: usize) -> Option<(Request, usize)>
 pub fn next_request(file: &[u8], at: usize) -> Option<(Request, usize)>
     ensures { result ≡ next_at file.now at }
 {
-    if let Some(read) = quick_request(file, at) {
-        return Some(read);
-    }
-    request_at(file, at)
+    quick_request(file, at).or_else(|| request_at(file, at))
 }

@@ -2,7 +2,7 @@
 ghost use Rattle.std.specs.Prelude.{◌≡◌, unwrap_or};
 ghost use Rattle.rules.specs.Numbers.{code_of};
 ghost use Rattle.sheet.specs.declared.Request.TheVariants.{Refused};
-ghost use Rattle.sheet.specs.Grammar.{letter_of, motor_of, input_of, scan_of, request_of, next_at, request_refusal};
+ghost use Rattle.sheet.specs.Grammar.{motor_of, input_of, scan_of, request_of, next_at, request_refusal};
 
 use crate::fields::{count_fields, field};
 use crate::lines::{next_line, part};
@@ -17,17 +17,6 @@ const MOTOR: u8 = b'M';
 pub const INPUT: u8 = b'I';
 
 pub const SCAN: u8 = b'S';
-
-// The byte of a field of one byte, and 0 of any other: a number, as in its definition, and the letter of no kind of line.
-#[tactic(auto, unfolding(words::specs::Opened::choices, crate::specs::Grammar::letter_of))]
-fn letter(field: &[u8]) -> u8
-    ensures { result ≡ letter_of field.now }
-{
-    match field {
-        [b] => *b,
-        _ => 0,
-    }
-}
 
 #[tactic(auto, unfolding(crate::specs::Grammar::motor_of, crate::specs::Grammar::number_in, crate::specs::Grammar::word_in, crate::specs::Grammar::motor_from, crate::specs::Grammar::with_value))]
 fn motor(line: &[u8]) -> Option<Request>
@@ -62,14 +51,14 @@ fn scan(line: &[u8]) -> Option<Request>
 }
 
 // The request that a line makes.
-#[tactic(auto, unfolding(words::specs::Opened::choices, crate::specs::Grammar::request_of, crate::specs::Grammar::is_kind))]
+#[tactic(auto, unfolding(words::specs::Opened::choices, crate::specs::Grammar::request_of, crate::specs::Grammar::is_kind, crate::specs::Grammar::letter_of))]
 pub fn parse(line: &[u8]) -> Request
     ensures { result ≡ request_of line.now }
 {
-    let request = match (letter(field(line, 0)), count_fields(line)) {
-        (MOTOR, 6) => motor(line),
-        (INPUT, 3) => input(line),
-        (SCAN, 2) => scan(line),
+    let request = match (field(line, 0), count_fields(line)) {
+        ([MOTOR], 6) => motor(line),
+        ([INPUT], 3) => input(line),
+        ([SCAN], 2) => scan(line),
         _ => None,
     };
     request.unwrap_or(Request::Refused)

@@ -3,6 +3,7 @@
 #![tactic(auto, unfolding(rules::specs::Opened::opened))]
 
 ghost use Rattle.std.specs.Prelude.{◌≡◌};
+ghost use Rattle.rules.specs.Record.{command_of};
 ghost use Rattle.rules.specs.Steps.{acknowledges_off, acknowledges_on, flags7, status7, acknowledges, wrong_place, on_forbidden, off_forbidden, admitted, candidate, chosen, displaces, starts, issues, issued};
 
 use crate::command::{direction_of, is_local, is_off, is_on, is_operator, is_risen};
@@ -90,11 +91,11 @@ pub fn is_candidate(s: Settings, v: Status, word: u32, c: u32) -> bool
     false
 }
 
-// The strongest candidate, or 0, the number of no command in the tables and tests that take what is chosen.
-pub fn choice(s: Settings, v: Status, word: u32) -> u32
-    ensures { result ≡ chosen s v word }
+// The strongest candidate.
+pub fn choice(s: Settings, v: Status, word: u32) -> Option<u32>
+    ensures { result ≡ command_of (chosen s v word) }
 {
-    (1..8).find(|&c| is_candidate(s, v, word, c)).unwrap_or(0)
+    (1..8).find(|&c| is_candidate(s, v, word, c))
 }
 
 // Whether the chosen command is issued at a position, with none under way.
@@ -121,10 +122,9 @@ pub fn is_issued(v: Status, new: u32) -> bool
     }
 }
 
-// Step 8: the command that is issued, or 0.
-pub fn to_issue(s: Settings, v: Status, word: u32) -> u32
-    ensures { result ≡ issued s v word }
+// Step 8: the command that is issued.
+pub fn to_issue(s: Settings, v: Status, word: u32) -> Option<u32>
+    ensures { result ≡ command_of (issued s v word) }
 {
-    let k = choice(s, v, word);
-    choose(is_issued(v, k), k, 0)
+    choice(s, v, word).filter(|&c| is_issued(v, c))
 }

@@ -1,4 +1,6 @@
 // Scans over lent records, and one over an array by value.
+// Records, words and period go side by side, and so do an array, its count and its words: callers keep them apart, so that a struct would
+// be made at each call only to be taken apart in it.
 #![tactic(auto)]
 
 ghost use Rattle.std.specs.Prelude.{◌≡◌, ◌++◌, ◌≤◌, take, drop};
