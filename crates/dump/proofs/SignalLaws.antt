@@ -1,11 +1,10 @@
 -- Laws of the signals of motors, one motor after another, by the states of their outputs. Assumes nothing.
-use Rattle.std.proofs.Common.{ℕ, suc, ◌+◌, ◌-◌, ◌*◌, ◌<◌, ◌≤◌, ◌≡◌, refl, sym, ap, ◌∙◌, Bool, true, false, List, [], ◌∷◌, ◌++◌, append_assoc, length, arith}
-use Rattle.std.specs.Prelude.{◌||◌, eqb, min, take, drop, set, get_or}
+use Rattle.std.proofs.Common.{◌⊎◌, inl, inr, ℕ, suc, ◌+◌, ◌-◌, ◌*◌, ◌<◌, ◌≤◌, ◌≡◌, refl, sym, ap, ◌∙◌, Bool, true, false, List, [], ◌∷◌, ◌++◌, append_assoc, length, arith}
+use Rattle.std.specs.Prelude.{◌||◌, eqb, take, drop, set, get_or}
 use Rattle.std.proofs.lemmas.Grind.{common_steps}
 use Rattle.std.specs.List.{zip, list_any}
 use native.Mathlib.Numerals.{add-one}
 use lib.ListN.{length-append, length-map, get_or-map, drop_of_length-le}
-use native.Mathlib.Decide.{dec_le}
 use lib.Seq.{take-suc, take-suc-set, take_all, drop-cons}
 use borrow.Author.Tests.{eq-eqb, ne_eqb}
 use Rattle.words.specs.Word.{when◌then◌else◌}
@@ -15,7 +14,7 @@ use Rattle.rules.specs.Record.{output_on, output_off}
 use Rattle.sheet.specs.Split.{joined}
 use Rattle.report.specs.Puts.{Puts}
 use Rattle.report.specs.declared.page.Page.{Page}
-use Rattle.report.proofs.PutLaws.{puts_none, puts_then}
+use Rattle.report.proofs.PutLaws.{Completes, one_more, none_left}
 use Rattle.vcd.specs.Text.{opening_of, code_of, wires_from, on_name, off_name, wire_line, value_line, values_from, word_line, differs, change_line, changes_from, timed}
 use Rattle.vcd.proofs.TextLaws.{timed_length, opening_length}
 use Rattle.dump.specs.Dump.{output_state, output_states, state_signals, signals_of, opening}
@@ -24,17 +23,10 @@ use Rattle.dump.specs.Signals.{first_by, scan_by, motor_differs, Tells}
 
 -- ---- one motor more
 
--- Whoever puts the rest puts the whole.
-pub record Completes (from : Page) (whole : List ℕ) (here : Page) (rest : List ℕ) : Type 0 where
-  pub by : (q : Page) → Puts here rest q → Puts from whole q
-
-pub all_left : {p : Page} {whole : List ℕ} → Completes p whole p whole
-all_left = record { by = λ q h. h }
-
 -- two lines more
-pub two_more : {from here mid later : Page} {whole rest a b c : List ℕ} → Completes from whole here rest → rest ≡ a ++ (b ++ c) → Puts here a mid → Puts mid b later
+two_more : {from here mid later : Page} {whole rest a b c : List ℕ} → Completes from whole here rest → rest ≡ a ++ (b ++ c) → Puts here a mid → Puts mid b later
     → Completes from whole later c
-two_more more e p k = record { by = λ q h. more.by q (rw e (puts_then p (puts_then k h))) }
+two_more more e p k = one_more (one_more more e p) refl k
 
 abbrev pub on : ℕ → Bool
 on s = eqb s output_on
@@ -57,26 +49,18 @@ values_more i ss d h =
     let f : 2 * (i + 1) ≡ 2 * i + 1 + 1 = omega arith in
     rw (f, drop-cons ss i d h, add-one i)
 
-pub changes_more : (i : ℕ) (ss ts : List ℕ) (d e : ℕ) → i < length ss → i < length ts → changes_from (2 * i) (state_signals (drop i ss)) (state_signals (drop i ts))
-    ≡ change_line (code_of (2 * i)) (on (get_or ss i d)) (on (get_or ts i e)) ++ (change_line (code_of (2 * i + 1)) (off (get_or ss i d)) (off (get_or ts i e))
-    ++ changes_from (2 * (i + 1)) (state_signals (drop (i + 1) ss)) (state_signals (drop (i + 1) ts)))
+pub changes_more : (i s t : ℕ) (ss ts : List ℕ) → changes_from (2 * i) (state_signals (s ∷ ss)) (state_signals (t ∷ ts))
+    ≡ change_line (code_of (2 * i)) (on s) (on t) ++ (change_line (code_of (2 * i + 1)) (off s) (off t) ++ changes_from (2 * (i + 1)) (state_signals ss) (state_signals ts))
 unfolding changes_from state_signals
-changes_more i ss ts d e h k =
-    let f : 2 * (i + 1) ≡ 2 * i + 1 + 1 = omega arith in
-    rw (f, drop-cons ss i d h, drop-cons ts i e k, add-one i)
+changes_more i s t ss ts = let f : 2 * (i + 1) ≡ 2 * i + 1 + 1 = omega arith in rw f
 
 -- where either ends no more change
-pub changes_over : (i n : ℕ) (ss ts : List ℕ) → min (length ss) (length ts) ≤ n → changes_from i (state_signals (drop n ss)) (state_signals (drop n ts)) ≡ []
+changes_over : (i : ℕ) (ss ts : List ℕ) → (length ss ≡ 0) ⊎ (length ts ≡ 0) → changes_from i (state_signals ss) (state_signals ts) ≡ []
 unfolding changes_from state_signals
-changes_over i n ss ts h = go (dec_le (length ss) n)
-  where
-    over : (vs : List Bool) → changes_from i vs [] ≡ []
-    over [] = refl
-    over (v ∷ vs) = refl
-
-    go : Dec (length ss ≤ n) → changes_from i (state_signals (drop n ss)) (state_signals (drop n ts)) ≡ []
-    go (yes l) = rw (drop_of_length-le ss l)
-    go (no l) = rw (drop_of_length-le ts {i = n} (omega arith)) (over _)
+changes_over i [] ts h = refl
+changes_over i (s ∷ ss) [] h = refl
+changes_over i (s ∷ ss) (t ∷ ts) (inl h) = absurd (omega (arith, h))
+changes_over i (s ∷ ss) (t ∷ ts) (inr h) = absurd (omega (arith, h))
 
 -- ---- a motor's lines put, in the loops over the motors, and no motor left
 
@@ -90,23 +74,22 @@ module _ {from here mid later : Page} {whole : List ℕ} (i : ℕ) {c d : ℕ} (
       → Completes from whole later (values_from (2 * (i + 1)) (state_signals (drop (i + 1) ss)))
   values_put ss x h more = two_more more (rw (values_more i ss x h, e, f))
 
-  pub changes_put : (ss ts : List ℕ) (x y : ℕ) → i < length ss → i < length ts → Completes from whole here (changes_from (2 * i) (state_signals (drop i ss)) (state_signals (drop i ts)))
-      → Puts here (change_line (c ∷ []) (on (get_or ss i x)) (on (get_or ts i y))) mid → Puts mid (change_line (d ∷ []) (off (get_or ss i x)) (off (get_or ts i y))) later
-      → Completes from whole later (changes_from (2 * (i + 1)) (state_signals (drop (i + 1) ss)) (state_signals (drop (i + 1) ts)))
-  changes_put ss ts x y h k more = two_more more (rw (changes_more i ss ts x y h k, e, f))
+  pub changes_put : {s t : ℕ} {us vs ss ts : List ℕ} → us ≡ s ∷ ss → vs ≡ t ∷ ts → Completes from whole here (changes_from (2 * i) (state_signals us) (state_signals vs))
+      → Puts here (change_line (c ∷ []) (on s) (on t)) mid → Puts mid (change_line (d ∷ []) (off s) (off t)) later
+      → Completes from whole later (changes_from (2 * (i + 1)) (state_signals ss) (state_signals ts))
+  changes_put {s = s} {t = t} {ss = ss} {ts = ts} h k more = two_more more (rw (h, k, changes_more i s t ss ts, e, f))
 
 module _ {from here : Page} {whole : List ℕ} (i j : ℕ) where
   pub wires_end : (held number : ℕ) → held ≤ i → Completes from whole here (wires_from j number (held - i)) → Puts from whole here
   unfolding wires_from
-  wires_end held number h more = let none : held - i ≡ 0 = omega arith in more.by here (rw none puts_none)
+  wires_end held number h more = let none : held - i ≡ 0 = omega arith in none_left more (rw none)
 
   pub values_end : (ss : List ℕ) → length ss ≤ i → Completes from whole here (values_from j (state_signals (drop i ss))) → Puts from whole here
   unfolding values_from state_signals
-  values_end ss h more = more.by here (rw (drop_of_length-le ss {i = i} h) puts_none)
+  values_end ss h more = none_left more (rw (drop_of_length-le ss {i = i} h))
 
-  pub changes_end : (ss ts : List ℕ) → min (length ss) (length ts) ≤ i → Completes from whole here (changes_from j (state_signals (drop i ss)) (state_signals (drop i ts)))
-      → Puts from whole here
-  changes_end ss ts h more = more.by here (rw (changes_over j i ss ts h) puts_none)
+  pub changes_end : (ss ts : List ℕ) → (length ss ≡ 0) ⊎ (length ts ≡ 0) → Completes from whole here (changes_from j (state_signals ss) (state_signals ts)) → Puts from whole here
+  changes_end ss ts h more = none_left more (changes_over j ss ts h)
 
 -- ---- whether there are any
 

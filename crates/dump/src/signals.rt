@@ -97,7 +97,7 @@ impl Outputs {
         &self.states[..self.held]
     }
 
-    #[tactic(auto, using(crate::proofs::SignalLaws::all_left, crate::proofs::SignalLaws::wires_put, crate::proofs::SignalLaws::wires_end))]
+    #[tactic(auto, using(report::proofs::PutLaws::all_left, crate::proofs::SignalLaws::wires_put, crate::proofs::SignalLaws::wires_end))]
     fn put_wires(&self, page: &mut Page)
         ensures { Puts page.old (wires_from 0 1 (length self.now)) page.new }
     {
@@ -107,7 +107,7 @@ impl Outputs {
         }
     }
 
-    #[tactic(auto, using(crate::proofs::SignalLaws::all_left, crate::proofs::SignalLaws::values_put, crate::proofs::SignalLaws::values_end))]
+    #[tactic(auto, using(report::proofs::PutLaws::all_left, crate::proofs::SignalLaws::values_put, crate::proofs::SignalLaws::values_end))]
     fn put_values(&self, page: &mut Page)
         ensures { Puts page.old (values_from 0 (state_signals self.now)) page.new }
     {
@@ -146,15 +146,14 @@ impl Outputs {
     }
 
     // The signals that changed, by number.
-    #[tactic(auto, using(crate::proofs::SignalLaws::all_left, crate::proofs::SignalLaws::changes_put, crate::proofs::SignalLaws::changes_end))]
+    #[tactic(auto, using(report::proofs::PutLaws::all_left, crate::proofs::SignalLaws::changes_put, crate::proofs::SignalLaws::changes_end))]
     fn put_changes(&self, page: &mut Page, before: &Outputs)
         ensures { Puts page.old (changes_from 0 (state_signals before.now) (state_signals self.now)) page.new }
     {
-        let old = before.states();
-        let new = self.states();
-        for i in 0..old.len().min(new.len()) {
-            put_change(page, code(2 * i), old[i] == 1, new[i] == 1);
-            put_change(page, code(2 * i + 1), old[i] == 2, new[i] == 2);
+        let both = before.states().iter().zip(self.states());
+        for (i, (&old, &new)) in both.enumerate() {
+            put_change(page, code(2 * i), old == 1, new == 1);
+            put_change(page, code(2 * i + 1), old == 2, new == 2);
         }
     }
 

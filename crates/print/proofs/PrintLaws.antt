@@ -1,6 +1,7 @@
 -- Laws of the print: its rows one after another, how long they are, and what is left to print from a place on. Assumes nothing.
 use Prim.Native.Nat.{ℕ, suc, ◌+◌, ◌*◌, ◌<◌, ◌≤◌}
 use mathlib.Core.Path.{◌≡◌, refl, sym, ap, ◌∙◌}
+use mathlib.Core.Logic.{◌⊎◌, inl, inr}
 use mathlib.Core.List.{List, [], ◌∷◌, ◌++◌, append_assoc, append-nil}
 use native.Mathlib.Omega.{arith}
 use native.Mathlib.Numerals.{add-one}
@@ -16,6 +17,9 @@ use Rattle.sheet.specs.declared.Request.TheVariants.{Motor as M, Input as I, Sca
 use Rattle.sheet.specs.Grammar.{requests_of}
 use Rattle.sheet.proofs.RequestLaws.{Step, requests_end, taken, done}
 use Rattle.report.specs.Print.{row_of, totals_row_of, refusal_of}
+use Rattle.report.specs.Puts.{Puts}
+use Rattle.report.specs.declared.page.Page.{Page}
+use Rattle.report.proofs.PutLaws.{Completes, one_more}
 use Rattle.report.proofs.PrintLaws.{row_length, totals_length}
 use Rattle.totals.specs.declared.Totals.{Totals}
 use Rattle.totals.specs.Totals.{under_way_in}
@@ -57,24 +61,20 @@ answer_length t Refused h = omega arith
 
 -- ---- the T lines of the motors
 
-totals_last : (n : ℕ) (ms : List Motor) (ts : List Totals) (m : Motor) (t : Totals) → length ms ≡ length ts
-    → running_print n (ms ++ (m ∷ [])) (ts ++ (t ∷ [])) ≡ running_print n ms ts ++ totals_row_of (totals_row (n + length ms) (under_way_in m.status) t)
+-- one motor more, in the loop over them
+pub totals_put : {from here later : Page} {whole : List ℕ} (n : ℕ) {m : Motor} {t : Totals} {ns ms : List Motor} {us ts : List Totals} → ns ≡ m ∷ ms → us ≡ t ∷ ts
+    → Completes from whole here (running_print n ns us) → Puts here (totals_row_of (totals_row n (under_way_in m.status) t)) later
+    → Completes from whole later (running_print (n + 1) ms ts)
 unfolding running_print
-totals_last n [] [] m t e = append-nil _ ∙ ap (λ (k : ℕ). totals_row_of (totals_row k (under_way_in m.status) t)) (sym (add-zero n))
-totals_last n [] (u ∷ ts) m t e = absurd (omega arith)
-totals_last n (x ∷ ms) [] m t e = absurd (omega arith)
-totals_last n (x ∷ ms) (u ∷ ts) m t e =
-    let k : n + 1 + length ms ≡ n + suc (length ms) = omega arith in
-    rw (totals_last (n + 1) ms ts m t (omega arith), append_assoc, k)
+totals_put n h k more = one_more more (rw (h, k))
 
--- one motor more
-pub totals_more : (i : ℕ) (ms : List Motor) (ts : List Totals) (d : Motor) (e : Totals) → i < length ms → i < length ts
-    → running_print 1 (take (i + 1) ms) (take (i + 1) ts) ≡ running_print 1 (take i ms) (take i ts) ++ totals_row_of (totals_row (i + 1) (under_way_in (get_or ms i d).status) (get_or ts i e))
-totals_more i ms ts d e h k =
-    let a = length-take-le i ms (omega arith) in
-    let b = length-take-le i ts (omega arith) in
-    let f : 1 + length (take i ms) ≡ i + 1 = omega (arith, a) in
-    rw (add-one i, take-suc ms i d h, take-suc ts i e k) (totals_last 1 (take i ms) (take i ts) (get_or ms i d) (get_or ts i e) (a ∙ sym b) ∙ rw (f, add-one i))
+-- and none left
+pub totals_over : (n : ℕ) (ms : List Motor) (ts : List Totals) → (length ms ≡ 0) ⊎ (length ts ≡ 0) → running_print n ms ts ≡ []
+unfolding running_print
+totals_over n [] ts h = refl
+totals_over n (m ∷ ms) [] h = refl
+totals_over n (m ∷ ms) (t ∷ ts) (inl h) = absurd (omega (arith, h))
+totals_over n (m ∷ ms) (t ∷ ts) (inr h) = absurd (omega (arith, h))
 
 totals_print_length : (n : ℕ) (ms : List Motor) (ts : List Totals) → length (running_print n ms ts) ≤ 101 * length ms
 unfolding running_print

@@ -39,9 +39,10 @@ fn totals_row(number: u32, m: Motor, t: Totals) -> TotalsRow
 fn put_end(b: Bench, page: &mut Page)
     ensures { Puts page.old (at_end (view_of b)) page.new }
 {
-    // by index: the number of a motor is its place in both arrays
-    for i in 0..b.held() {
-        page.totals(totals_row(i as u32 + 1, b.motors[i], b.totals[i]));
+    let held = b.held();
+    let both = b.motors[..held].iter().zip(&b.totals[..held]);
+    for (i, (&m, &t)) in both.enumerate() {
+        page.totals(totals_row(i as u32 + 1, m, t));
     }
 }
 

@@ -69,3 +69,18 @@ puts_none = record { put = put_none; same_buffer = refl }
 
 pub puts_then : {p q r : Page} {a b : List ℕ} → Puts p a q → Puts q b r → Puts p (a ++ b) r
 puts_then h k = record { put = then h.put k.put; same_buffer = k.same_buffer ∙ h.same_buffer }
+
+-- ---- the same of a page in a loop
+
+-- Whoever puts the rest puts the whole.
+pub record Completes (from : Page) (whole : List ℕ) (here : Page) (rest : List ℕ) : Type 0 where
+  pub by : (q : Page) → Puts here rest q → Puts from whole q
+
+pub all_left : {p : Page} {whole : List ℕ} → Completes p whole p whole
+all_left = record { by = λ q h. h }
+
+pub one_more : {from here later : Page} {whole rest a b : List ℕ} → Completes from whole here rest → rest ≡ a ++ b → Puts here a later → Completes from whole later b
+one_more more e p = record { by = λ q h. more.by q (rw e (puts_then p h)) }
+
+pub none_left : {from here : Page} {whole rest : List ℕ} → Completes from whole here rest → rest ≡ [] → Puts from whole here
+none_left {here = here} more e = more.by here (rw e puts_none)

@@ -1,7 +1,7 @@
 use Rattle.std.proofs.Common.{◌*◌, drop}
 use Rattle.vcd.specs.Text.{values_from}
 use Rattle.dump.specs.Dump.{state_signals}
-use Rattle.dump.proofs.SignalLaws.{Completes}
+use Rattle.report.proofs.PutLaws.{Completes}
 use Rattle.dump.proofs.signals.Outputs.put_values.Given as goal
 
 abbrev pub invariant-loop-i : goal.invariant-loop-i

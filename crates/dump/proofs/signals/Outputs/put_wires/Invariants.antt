@@ -1,6 +1,6 @@
 use Rattle.std.proofs.Common.{◌+◌, ◌-◌, ◌*◌}
 use Rattle.vcd.specs.Text.{wires_from}
-use Rattle.dump.proofs.SignalLaws.{Completes}
+use Rattle.report.proofs.PutLaws.{Completes}
 use Rattle.dump.proofs.signals.Outputs.put_wires.Given as goal
 
 abbrev pub invariant-loop-i : goal.invariant-loop-i
