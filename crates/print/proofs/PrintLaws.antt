@@ -19,7 +19,7 @@ use Rattle.sheet.proofs.RequestLaws.{Step, requests_end, taken, done}
 use Rattle.report.specs.Print.{row_of, totals_row_of, refusal_of}
 use Rattle.report.specs.Puts.{Puts}
 use Rattle.report.specs.declared.page.Page.{Page}
-use Rattle.report.proofs.PutLaws.{Completes, one_more}
+use Rattle.report.proofs.PutLaws.{Completes, one_more, none_left}
 use Rattle.report.proofs.PrintLaws.{row_length, totals_length}
 use Rattle.totals.specs.declared.Totals.{Totals}
 use Rattle.totals.specs.Totals.{under_way_in}
@@ -69,12 +69,16 @@ unfolding running_print
 totals_put n h k more = one_more more (rw (h, k))
 
 -- and none left
-pub totals_over : (n : ℕ) (ms : List Motor) (ts : List Totals) → (length ms ≡ 0) ⊎ (length ts ≡ 0) → running_print n ms ts ≡ []
+totals_over : (n : ℕ) (ms : List Motor) (ts : List Totals) → (length ms ≡ 0) ⊎ (length ts ≡ 0) → running_print n ms ts ≡ []
 unfolding running_print
 totals_over n [] ts h = refl
 totals_over n (m ∷ ms) [] h = refl
 totals_over n (m ∷ ms) (t ∷ ts) (inl h) = absurd (omega (arith, h))
 totals_over n (m ∷ ms) (t ∷ ts) (inr h) = absurd (omega (arith, h))
+
+pub totals_end : {from here : Page} {whole : List ℕ} (n : ℕ) (ms : List Motor) (ts : List Totals) → (length ms ≡ 0) ⊎ (length ts ≡ 0)
+    → Completes from whole here (running_print n ms ts) → Puts from whole here
+totals_end n ms ts h more = none_left more (totals_over n ms ts h)
 
 totals_print_length : (n : ℕ) (ms : List Motor) (ts : List Totals) → length (running_print n ms ts) ≤ 101 * length ms
 unfolding running_print

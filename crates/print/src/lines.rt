@@ -35,7 +35,7 @@ fn totals_row(number: u32, m: Motor, t: Totals) -> TotalsRow
 }
 
 // What is printed at the end of a file: the T lines of a bench.
-#[tactic(auto, unfolding(rules::specs::Refusals::most_motors))]
+#[tactic(auto, using(interpreter::proofs::ActLaws::take_used, report::proofs::PutLaws::all_left, crate::proofs::PrintLaws::totals_put, crate::proofs::PrintLaws::totals_end), unfolding(rules::specs::Refusals::most_motors, crate::specs::Advance::at_end))]
 fn put_end(b: Bench, page: &mut Page)
     ensures { Puts page.old (at_end (view_of b)) page.new }
 {
