@@ -1,11 +1,11 @@
 // The search for LF, for programs in Rust or C to link (the crate `line_ends_c` exports it): they test it and measure it as
-// it is. Where there is no LF, the answer is the slice's length.
+// it is. Where there is no LF, the answer is the slice's length and no Option, since C calls it.
 #![tactic(auto)]
 
 ghost use Rattle.std.specs.Prelude.{◌≡◌, length, unwrap_or};
 ghost use Rattle.sheet.specs.Lines.{found_lf};
 
-use sheet::{find_lf, index_from};
+use sheet::{LF, find_lf, index_from};
 
 // The first LF at or after a place, as the bench finds it.
 pub fn first_lf(file: &[u8], at: usize) -> usize
@@ -18,6 +18,5 @@ pub fn first_lf(file: &[u8], at: usize) -> usize
 pub fn first_lf_by_bytes(file: &[u8], at: usize) -> usize
     ensures { result ≡ unwrap_or (found_lf file.now at) (length file.now) }
 {
-    let i = index_from(file, at, b'\n');
-    if i < file.len() { i } else { file.len() }
+    index_from(file, at, LF).unwrap_or(file.len())
 }

@@ -1,4 +1,5 @@
-// The search for LF as a static library, for programs in Rust or C: the two functions of `line_ends`, exported.
+// The search for LF as a static library, for programs in Rust or C: the two functions of `line_ends`, exported. Where there is no LF, they
+// answer the slice's length, since C has no Option.
 #![tactic(auto)]
 
 ghost use Rattle.std.specs.Prelude.{◌≡◌, length, unwrap_or};

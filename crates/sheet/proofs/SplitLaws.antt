@@ -8,8 +8,9 @@ use native.Mathlib.Decide.{dec_le, dec_lt}
 use lib.ListN.{length, take, drop, get_or, length-append, length-drop, drop_of_length-le}
 use lib.Seq.{take_all, take-nil, take-suc}
 use lib.Dec.{eqb, ltb}
-use borrow.Author.Tests.{eq-eqb, ne_eqb, eqb-true, eqb-false, ltb-false}
+use borrow.Author.Tests.{eq-eqb, ne_eqb, eqb-true, eqb-false}
 use Rattle.std.specs.Prelude.{Option, Some, None, count_by, cond, unwrap_or}
+use Rattle.std.specs.Bool.{then_some}
 use Rattle.std.specs.List.{position, position_or_len, slice_get, slice_split, onto_first}
 use Rattle.std.proofs.lemmas.List.Recursion.{is_position_or_len}
 use Rattle.std.specs.Option.{option_copied}
@@ -27,21 +28,21 @@ unfolding index_of
 index_le b [] = omega arith
 index_le b (x ∷ s) = either (λ (n : ℕ). n ≤ suc (length s)) _ (omega arith) (omega (arith, index_le b s))
 
--- as std counts to it
-pub index_by : (b : ℕ) (s : List ℕ) (r : Option ℕ) → r ≡ position (λ x. eqb x b) s → unwrap_or r (length s) ≡ index_of b s
+-- by std's words
+pub position_is : (b : ℕ) (s : List ℕ) → position (λ x. eqb x b) s ≡ then_some (ltb (index_of b s) (length s)) (index_of b s)
 unfolding index_of when◌then◌else◌
-index_by b s r e = rw (e, ← counted) (go (ltb (index_of b s) (length s)) refl)
+position_is b s = rw counted (go (ltb (index_of b s) (length s)))
   where
-    counted : index_of b s ≡ position_or_len (λ x. eqb x b) s
-    counted = is_position_or_len (index_of b) (λ x. eqb x b) refl (λ x xs. either_way (eqb x b) (index_of b xs)) s
+    go : (t : Bool) → cond t (Some (index_of b s)) None ≡ then_some t (index_of b s)
+    go true = refl
+    go false = refl
+
+    counted : position_or_len (λ x. eqb x b) s ≡ index_of b s
+    counted = sym (is_position_or_len (index_of b) (λ x. eqb x b) refl (λ x xs. either_way (eqb x b) (index_of b xs)) s)
       where
         either_way : (t : Bool) (n : ℕ) → (when t then 0 else suc n) ≡ cond t 0 (1 + n)
         either_way true n = refl
         either_way false n = omega arith
-
-    go : (t : Bool) → ltb (index_of b s) (length s) ≡ t → unwrap_or (cond t (Some (index_of b s)) None) (length s) ≡ index_of b s
-    go true f = refl
-    go false f = omega (arith, ltb-false _ _ f, index_le b s)
 
 -- it is a b, and there is none before it
 pub index_is : (b : ℕ) (s : List ℕ) → index_of b s < length s → get_or s (index_of b s) 0 ≡ b

@@ -1,16 +1,13 @@
 -- The lines of a file: the paper's "The bench program's file", and of its refusal 5 "A line empty, over 80 bytes without LF, lacking LF".
 use Rattle.std.specs.Prelude.{ℕ, ◌+◌, Bool, ◌&&◌, List, [], ◌∷◌, length, drop, eqb, leb, ltb, Option}
-use Rattle.std.specs.Bool.{then_some}
 use Rattle.words.specs.Word.{when◌then◌else◌}
-use Rattle.sheet.specs.Split.{LF, split, index_of}
+use Rattle.sheet.specs.Split.{LF, split, found_byte}
 use Rattle.sheet.specs.declared.Line.{Line}
 use Rattle.sheet.specs.declared.Line.TheVariants.{Until, Refused, End}
 
 -- The first LF at or after a place, or none
-unfoldable pub found_lf : List ℕ → ℕ → Option ℕ
-found_lf file at =
-    let i = at + index_of LF (drop at file) in
-    then_some (ltb i (length file)) i
+abbrev pub found_lf : List ℕ → ℕ → Option ℕ
+found_lf file at = found_byte file at LF
 
 -- How many bytes a line may have without LF
 abbrev pub longest : ℕ

@@ -1,6 +1,7 @@
 -- A list of bytes, parted at a byte: the lines of a file at LF, the fields of a line at commas. The paper's "The bench program's file":
 -- "Lines end in LF; fields stand in fixed order, parted by commas, no quoting."
-use Rattle.std.specs.Prelude.{ℕ, suc, ◌-◌, List, [], ◌∷◌, ◌++◌, length, take, drop, get_or, eqb}
+use Rattle.std.specs.Prelude.{ℕ, suc, ◌+◌, ◌-◌, List, [], ◌∷◌, ◌++◌, length, take, drop, get_or, eqb, ltb, Option}
+use Rattle.std.specs.Bool.{then_some}
 use Rattle.words.specs.Word.{when◌then◌else◌}
 
 -- The bytes LF and comma
@@ -30,6 +31,12 @@ joined b (p ∷ q ∷ ps) = p ++ b ∷ joined b (q ∷ ps)
 unfoldable pub index_of : ℕ → List ℕ → ℕ
 index_of b [] = 0
 index_of b (x ∷ xs) = when eqb x b then 0 else suc (index_of b xs)
+
+-- The first b at or after a place, or none
+unfoldable pub found_byte : List ℕ → ℕ → ℕ → Option ℕ
+found_byte file at b =
+    let i = at + index_of b (drop at file) in
+    then_some (ltb i (length file)) i
 
 -- The bytes from one place up to another, as many as there are
 unfoldable pub between : ℕ → ℕ → List ℕ → List ℕ

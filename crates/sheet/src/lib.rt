@@ -11,10 +11,11 @@ mod search;
 mod word_fields;
 
 pub use fields::{COMMA, count_fields, field};
-pub use lines::{LF, find_lf, index_from, next_line, part};
+pub use lines::{LF, index_from, next_line, part};
 pub use numbers::read_number;
 pub use quick::{is_at, next_request};
 pub use requests::{accept, parse};
+pub use search::find_lf;
 pub use word_fields::read_word;
 
 // What stands at a place of a file: one of three, which `Option<Result<usize, _>>` would say no plainer.

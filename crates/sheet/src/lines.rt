@@ -1,32 +1,22 @@
 // The lines of a file, found where they stand.
-ghost use Rattle.std.specs.Prelude.{◌≡◌, ◌+◌, min, drop};
-ghost use Rattle.sheet.specs.Split.{index_of, between};
-ghost use Rattle.sheet.specs.Lines.{found_lf, well_sized, line_at};
+ghost use Rattle.std.specs.Prelude.{◌≡◌};
+ghost use Rattle.sheet.specs.Split.{found_byte, between};
+ghost use Rattle.sheet.specs.Lines.{well_sized, line_at};
 
 use crate::Line;
-use crate::search::lf_from;
+use crate::search::find_lf;
 
 pub const LF: u8 = b'\n';
 
 // How many bytes a line may have without its LF.
 pub const LONGEST: usize = 80;
 
-// The first place from `at` on that has the byte b; the end of s, or `at` past it, if none has. A place either way, and no Option:
-// the search by words goes on from one, and `find_lf` makes the Option.
-pub fn index_from(s: &[u8], at: usize, b: u8) -> usize
-    ensures { result ≡ at + index_of b (drop at s.now) }
+// The first place from `at` on that has the byte b.
+pub fn index_from(s: &[u8], at: usize, b: u8) -> Option<usize>
+    ensures { result ≡ found_byte s.now at b }
 {
-    let rest = part(s, at, s.len());
-    at + rest.iter().position(|x| *x == b).unwrap_or(rest.len())
-}
-
-// The first LF at or after a place.
-#[tactic(auto, unfolding(crate::specs::Lines::found_lf))]
-pub fn find_lf(file: &[u8], at: usize) -> Option<usize>
-    ensures { result ≡ found_lf file.now at }
-{
-    let i = lf_from(file, at);
-    (i < file.len()).then_some(i)
+    let i = s.get(at..)?.iter().position(|x| *x == b)?;
+    Some(at + i)
 }
 
 // The bytes from one place up to another, as many of them as there are.

@@ -1,6 +1,7 @@
 // The search for LF, eight bytes at a time.
-ghost use Rattle.std.specs.Prelude.{◌≡◌, ◌+◌, ◌≤◌, length, drop};
-ghost use Rattle.sheet.specs.Split.{LF, index_of, between};
+ghost use Rattle.std.specs.Prelude.{◌≡◌, ◌+◌, ◌≤◌, length};
+ghost use Rattle.sheet.specs.Split.{LF, between};
+ghost use Rattle.sheet.specs.Lines.{found_lf};
 ghost use Rattle.sheet.specs.WordBytes.{bytes_of, contains};
 
 use crate::lines::{LF, index_from};
@@ -31,20 +32,20 @@ fn has_lf(w: u64) -> bool
     ((((w & LOW_BITS) ^ LFS) + LOW_BITS) | w | LOW_BITS) != ALL_BITS
 }
 
-// The first LF at `at` or after it; the end of s, or `at` past it, if there is none: a place, as `index_from` answers, of which `find_lf`
-// makes the Option.
-pub fn lf_from(s: &[u8], at: usize) -> usize
-    ensures { result ≡ at + index_of LF (drop at s.now) }
+// The first LF at or after a place. Words are passed over up to one that has an LF, and what follows is searched by bytes.
+pub fn find_lf(file: &[u8], at: usize) -> Option<usize>
+    ensures { result ≡ found_lf file.now at }
 {
     // places from which eight bytes stand
-    let places = s.len().saturating_sub(7);
-    // no `find` over `step_by(8)`: what follows needs a place also where no word has an LF, which would have to be made up
+    let places = file.len().saturating_sub(7);
+    // tried: `find` over `(at..places).step_by(8)`, and `take_while` and `count` over `chunks_exact(8)`; both prove, but took up
+    // to twice the time in `tests/search.sh speed`
     let mut i = at;
     while i < places {
-        if has_lf(word_at(s, i)) {
+        if has_lf(word_at(file, i)) {
             break;
         }
         i += 8;
     }
-    index_from(s, i, LF)
+    index_from(file, i, LF)
 }

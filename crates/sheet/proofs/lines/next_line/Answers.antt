@@ -1,5 +1,6 @@
 use mathlib.Core.Path.{◌∙◌, sym}
 use native.Mathlib.Omega.{arith}
+use Rattle.sheet.specs.Split.{LF}
 use Rattle.sheet.proofs.LineLaws.{found_place, line_end, line_open, line_whole, line_faulty}
 use Rattle.sheet.proofs.lines.next_line.Goals as goal
 
@@ -9,7 +10,7 @@ returns-then-file-at c = let a = c.args in sym (line_end a.file.now a.at c.if-fi
 pub overflow_sub-end : goal.overflow_sub-end
 overflow_sub-end c =
     let a = c.args in
-    omega (arith, found_place a.file.now a.at c.in-Some.end (sym c.in-Some.ensures))
+    omega (arith, found_place a.file.now a.at LF c.in-Some.end (sym c.in-Some.ensures))
 
 pub returns-in-Some : goal.returns-in-Some
 returns-in-Some c =

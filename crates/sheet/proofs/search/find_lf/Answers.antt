@@ -1,8 +1,9 @@
 use mathlib.Core.Path.{refl, sym, ◌∙◌}
 use native.Mathlib.Omega.{arith}
 use Rattle.sheet.specs.Split.{LF}
+use Rattle.sheet.proofs.LineLaws.{found_on}
 use Rattle.sheet.proofs.WordLaws.{index_skip}
-use Rattle.sheet.proofs.search.lf_from.Goals as goal
+use Rattle.sheet.proofs.search.find_lf.Goals as goal
 
 pub word_at-requires : goal.word_at-requires
 word_at-requires c = omega (arith, c.loop-i-test.true, c.saturating_sub-places.ensures)
@@ -15,7 +16,7 @@ overflow_add-i c =
 
 pub loop-i-preserved : goal.loop-i-preserved
 loop-i-preserved c =
-    let s = c.args.s.now in
+    let s = c.args.file.now in
     let l = c.loop-i in
     let n = c.saturating_sub-places.ensures in
     let t = c.loop-i-test.true in
@@ -23,7 +24,7 @@ loop-i-preserved c =
     omega (arith, l.invariant, index_skip LF s l.i 8 (omega arith) none)
 
 pub returns : goal.returns
-returns c = c.index_from.ensures ∙ sym c.loop-i.invariant
+returns c = c.index_from.ensures ∙ found_on c.args.file.now c.args.at LF c.loop-i.i c.loop-i.invariant
 
 pub loop-i-init : goal.loop-i-init
 loop-i-init c = refl
