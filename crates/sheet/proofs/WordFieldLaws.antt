@@ -4,8 +4,10 @@ use mathlib.Core.Path.{◌≡◌, refl, sym, ap, ◌∙◌}
 use mathlib.Core.Bool.{Bool, true, false, ◌&&◌, ◌||◌, and-false, false≢true}
 use mathlib.Core.List.{List, [], ◌∷◌}
 use native.Mathlib.Omega.{arith}
+use native.Mathlib.Decide.{dec_le}
 use native.Mathlib.Nat.{pow-le-pow_right}
-use lib.ListN.{length, drop, get_or}
+use lib.ListN.{length, drop, get_or, length-drop}
+use lib.Seq.{take_all}
 use lib.Dec.{eqb, leb, lit<}
 use borrow.Author.Tests.{lt-leb, ne_eqb, eqb-true}
 use Rattle.words.specs.Word.{when◌then◌else◌}
@@ -15,6 +17,7 @@ use Rattle.sheet.specs.Number.{is_digit, number_of}
 use Rattle.sheet.specs.WordField.{is_hex_digit, hex_digit, all_hex_digits, hex_from, is_hex_count, hex_number, has0x, word_of}
 use Rattle.std.specs.Prelude.{Some}
 use Rattle.std.specs.Bool.{then_some}
+use Rattle.std.specs.List.{slice_range}
 use Rattle.sheet.proofs.NumberLaws.{number_spells, digits_free}
 
 -- ---- digits
@@ -47,6 +50,23 @@ hex_field s e = let w = and_true (eqb (get_or s 0 0) 48) (eqb (get_or s 1 0) 120
     go [] a b = absurd (omega arith)
     go (x ∷ []) a b = absurd (omega arith)
     go (x ∷ y ∷ s) a b = rw (a, b)
+
+-- the word of a field, by its first two bytes
+pub hex_word : (s : List ℕ) → get_or s 0 0 ≡ 48 → get_or s 1 0 ≡ 120 → word_of s ≡ hex_number (slice_range s 2 (length s))
+unfolding word_of has0x when◌then◌else◌
+hex_word s a b = rw (a, b, take_all (length s - 2) (drop 2 s) (omega (arith, length-drop 2 s)))
+
+pub plain_word : (s : List ℕ) → (2 ≤ length s → get_or s 0 0 ≡ 48 → get_or s 1 0 ≡ 120 → ⊥) → word_of s ≡ number_of s
+unfolding word_of when◌then◌else◌
+plain_word s n = rw (none (dec_le 2 (length s)))
+  where
+    none : Dec (2 ≤ length s) → has0x s ≡ false
+    none (no h) = short_no_0x s (omega arith)
+    none (yes h) = go (has0x s) refl
+      where
+        go : (t : Bool) → has0x s ≡ t → has0x s ≡ false
+        go false e = e
+        go true e = let f = hex_field s e in absurd (n h (ap (λ (t : List ℕ). get_or t 0 0) f) (ap (λ (t : List ℕ). get_or t 1 0) f))
 
 -- a field that is a number does not begin so, and its word is that number
 pub number_no_0x : (s : List ℕ) (n : ℕ) → number_of s ≡ Some n → has0x s ≡ false

@@ -8,10 +8,7 @@ ghost use Rattle.sheet.specs.Number.{is_digit, digits_number, number_of};
 pub fn digit(b: u8) -> Option<u32>
     ensures { result ≡ then_some (is_digit b) (b - 48) }
 {
-    match b {
-        b'0'..=b'9' => Some((b - b'0') as u32),
-        _ => None,
-    }
+    char::from(b).to_digit(10)
 }
 
 // What digits say.

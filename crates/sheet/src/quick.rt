@@ -73,10 +73,7 @@ fn word_at(file: &[u8], at: usize) -> Option<(u32, usize)>
 fn begins_with(file: &[u8], at: usize, letter: u8) -> bool
     ensures { result ≡ begins_with file.now at letter }
 {
-    if is_at(file, at, letter) {
-        return is_at(file, at + 1, COMMA);
-    }
-    false
+    is_at(file, at, letter) && is_at(file, at + 1, COMMA)
 }
 
 // Whether an LF stands at `end`, and a line from `at` up to there is not too long.

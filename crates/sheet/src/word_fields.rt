@@ -65,12 +65,12 @@ pub fn has_0x(field: &[u8]) -> bool
 }
 
 // The word that a field says.
-#[tactic(auto, using(crate::proofs::SplitLaws::between_last), unfolding(words::specs::Opened::choices, crate::specs::WordField::word_of))]
+#[tactic(auto, using(crate::proofs::WordFieldLaws::hex_word, crate::proofs::WordFieldLaws::plain_word))]
 pub fn read_word(field: &[u8]) -> Option<u32>
     ensures { result ≡ word_of field.now }
 {
-    if has_0x(field) {
-        return hex_digits(part(field, 2, field.len()));
+    match field {
+        [b'0', b'x', digits @ ..] => hex_digits(digits),
+        _ => read_number(field),
     }
-    read_number(field)
 }
