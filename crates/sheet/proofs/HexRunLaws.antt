@@ -18,6 +18,7 @@ use Rattle.sheet.specs.Places.{hex_digit_at, hex_run, hex_run_at, SaidAt, Read}
 use Rattle.std.specs.Prelude.{Option, Some, None}
 use Rattle.std.specs.Bool.{then_some}
 use Rattle.std.proofs.lemmas.Option.{none-some, same_Some, some_pair_parts}
+use Rattle.sheet.proofs.SplitLaws.{between_last}
 use Rattle.sheet.proofs.WordFieldLaws.{digit_small, hex_fits, hex_field}
 
 -- ---- the digit at a place
@@ -177,9 +178,9 @@ module _ (s : List ℕ) where
 
 -- ---- a word after 0x, where it stands
 
-module _ (file : List ℕ) (at : ℕ) (x : has0x (drop at file) ≡ true) where
+module _ (file : List ℕ) (at : ℕ) (x : has0x (between at (length file) file) ≡ true) where
   bytes : drop at file ≡ 48 ∷ 120 ∷ drop (at + 2) file
-  bytes = hex_field (drop at file) x ∙ rw (drop-drop 2 at file)
+  bytes = hex_field (drop at file) (rw (between_last at file) at x) ∙ rw (drop-drop 2 at file)
 
   pub two_inside : at + 2 ≤ length file
   two_inside = omega (arith, ap length bytes, length-drop at file)

@@ -1,5 +1,6 @@
 // The bench program's file: its lines, their fields, the numbers in these, and the requests that lines make. What is read
 // is defined in specs/, for every list of bytes; every function exported here is equal to its definition on any input.
+// A file and a place in it are two parameters side by side, and no slice from there on, since the answers are places in the file.
 #![tactic(auto)]
 
 mod fields;
@@ -49,6 +50,6 @@ pub enum Request {
     Scan {
         period: u32,
     },
-    // None: a case here and no Err, since the program counts such a line as it does the others, and only then refuses it.
+    // A line that makes no request. It is a case and no Err, since `requests_of` has one request for each line.
     Refused,
 }

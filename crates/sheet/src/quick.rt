@@ -1,6 +1,7 @@
-// The next request of a file. Lines of the two common kinds, I and S, are read once, where they stand in the file. What
-// cannot be read so is left to the reader of any line: a reading here may fail for any reason, but must not be wrong.
-// `file` and `at` are no struct: it would be made anew at each place, and a slice from `at` on has no places in the file.
+// The next request of a file. The grammar of the two common kinds of lines, I and S, stands here a second time, since to read
+// them once, where they stand, is faster: 107 nanoseconds for 133 (docs/BENCHMARK.md). What cannot be read so is left to the reader
+// of any line: a reading here may fail for any reason, but must not be wrong.
+// `file` and `at` are two parameters, and no reader that moves on: a reading that fails has to leave the place as it was.
 ghost use Rattle.std.specs.Prelude.{◌≡◌, true, ◌≤◌, ◌-◌, get_or};
 ghost use Rattle.std.specs.Bool.{then_some};
 ghost use Rattle.sheet.specs.Number.{number_of};
@@ -59,6 +60,7 @@ fn number_at(file: &[u8], at: usize) -> Option<(u32, usize)>
 }
 
 // The word at a place of a file.
+#[tactic(auto, using(crate::proofs::PlaceLaws::number_read, crate::proofs::HexRunLaws::two_inside, crate::proofs::HexRunLaws::run_word))]
 fn word_at(file: &[u8], at: usize) -> Option<(u32, usize)>
     ensures { Read word_of file.now at result }
 {

@@ -4,7 +4,6 @@ ghost use Rattle.std.specs.Bool.{then_some};
 ghost use Rattle.sheet.specs.WordField.{is_hex_digit, hex_digit, hex_number, has0x, word_of};
 ghost use Rattle.sheet.specs.Places.{hex_digit_at, hex_run_at};
 
-use crate::lines::part;
 use crate::numbers::{digit, read_number};
 
 // How many hexadecimal digits a word may have.
