@@ -8,5 +8,6 @@ pub mod HexBack
 pub mod DecimalLaws
 pub mod RequestLaws
 pub mod PlaceLaws
+pub mod NumberRunLaws
 pub mod Vectors
 pub mod MoreLines

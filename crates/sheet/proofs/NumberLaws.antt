@@ -1,21 +1,19 @@
 -- Laws of digits and the numbers that they say. Assumes nothing.
 use Prim.Native.Nat.{ℕ, suc, ◌+◌, ◌-◌, ◌*◌, ◌<◌, ◌≤◌}
 use mathlib.Core.Path.{◌≡◌, refl, sym, ap, ◌∙◌}
-use mathlib.Core.Bool.{Bool, true, false, ◌&&◌, ◌||◌, false≢true, and-true as and_one, and-false, and_assoc}
-use mathlib.Core.List.{List, [], ◌∷◌, ◌++◌}
+use mathlib.Core.Bool.{Bool, true, false, ◌&&◌, ◌||◌, false≢true, and-true as and_one, and-false}
+use mathlib.Core.List.{List, [], ◌∷◌}
 use native.Mathlib.Decide.{dec_lt}
 use native.Mathlib.Omega.{arith}
-use lib.ListN.{length, drop, get_or, drop_of_length-le}
-use lib.Seq.{drop-cons}
+use lib.ListN.{length, get_or}
 use lib.Dec.{eqb, leb, ltb}
-use borrow.Author.Tests.{le-leb, lt-leb, eq-eqb, ne_eqb, le-ltb, lt-ltb, leb-true, eqb-true, eqb-false}
+use borrow.Author.Tests.{le-leb, ne_eqb, le-ltb, lt-ltb, leb-true, eqb-true, eqb-false}
 use Rattle.words.specs.Word.{when◌then◌else◌}
 use Rattle.words.proofs.Laws.{and_true, both_le}
 use Rattle.sheet.specs.Split.{index_of}
 use Rattle.sheet.specs.Number.{largest, is_digit, all_digits, value_from, digits_number, leading_zero, number_of}
-use Rattle.std.specs.Prelude.{Option, Some, None}
+use Rattle.std.specs.Prelude.{Some, None}
 use Rattle.std.specs.Bool.{then_some}
-use Rattle.std.proofs.lemmas.Option.{none-some, same_Some}
 
 -- a value never falls
 pub value_grows : (v : ℕ) (s : List ℕ) → v ≤ value_from v s
@@ -23,65 +21,11 @@ unfolding value_from
 value_grows v [] = omega arith
 value_grows v (b ∷ s) = omega (arith, value_grows (v * 10 + (b - 48)) s)
 
--- the number that digits say, read on from the value v of those before them
-unfoldable pub number_from : ℕ → List ℕ → Option ℕ
-number_from v s = then_some (all_digits s && leb (value_from v s) largest) (value_from v s)
-
-pub number_none : (s : List ℕ) → digits_number s ≡ number_from 0 s
-unfolding digits_number number_from
-number_none s = refl
-
-module _ (s : List ℕ) (i v : ℕ) where
-  pub number_past : length s ≤ i → v ≤ largest → number_from v (drop i s) ≡ Some v
-  unfolding number_from all_digits value_from
-  number_past h l = rw (drop_of_length-le s h, le-leb v largest l)
-
-  pub number_large : i < length s → largest < v * 10 + (get_or s i 0 - 48) → number_from v (drop i s) ≡ None
-  unfolding number_from all_digits value_from
-  number_large h l =
-      let b = get_or s i 0 in
-      let g = value_grows (v * 10 + (b - 48)) (drop (suc i) s) in
-      rw (drop-cons s i 0 h, lt-leb (value_from (v * 10 + (b - 48)) (drop (suc i) s)) largest (omega arith), and-false (is_digit b && all_digits (drop (suc i) s)))
-
-  pub number_wrong : i < length s → is_digit (get_or s i 0) ≡ false → number_from v (drop i s) ≡ None
-  unfolding number_from all_digits
-  number_wrong h e = rw (drop-cons s i 0 h, e)
-
-  pub number_step : i < length s → is_digit (get_or s i 0) ≡ true → number_from v (drop i s) ≡ number_from (v * 10 + (get_or s i 0 - 48)) (drop (suc i) s)
-  unfolding number_from all_digits value_from
-  number_step h e = rw (drop-cons s i 0 h, e)
-
 -- ---- digits
 
 pub digit_range : (b : ℕ) → is_digit b ≡ true → (48 ≤ b) × (b ≤ 57)
 unfolding is_digit
 digit_range b e = both_le e
-
--- by the function that tells a digit's value
-pub digit_is : (b d : ℕ) → Some d ≡ then_some (is_digit b) (b - 48) → (is_digit b ≡ true) × (d ≡ b - 48)
-digit_is b d e = go (is_digit b) e
-  where
-    go : (t : Bool) → Some d ≡ then_some t (b - 48) → (t ≡ true) × (d ≡ b - 48)
-    go true e = (refl, same_Some _ _ e)
-    go false e = absurd (none-some _ (sym e))
-
-pub digit_not : (b : ℕ) → None ≡ then_some (is_digit b) (b - 48) → is_digit b ≡ false
-digit_not b e = go (is_digit b) e
-  where
-    go : (t : Bool) → None ≡ then_some t (b - 48) → t ≡ false
-    go true e = absurd (none-some _ e)
-    go false e = refl
-
--- one digit more at the end
-pub all_snoc : (s : List ℕ) (b : ℕ) → all_digits (s ++ b ∷ []) ≡ (all_digits s && is_digit b)
-unfolding all_digits
-all_snoc [] b = and_one (is_digit b)
-all_snoc (x ∷ s) b = ap (λ (t : Bool). is_digit x && t) (all_snoc s b) ∙ sym (and_assoc (is_digit x) (all_digits s) (is_digit b))
-
-pub value_more : (v : ℕ) (s : List ℕ) (b : ℕ) → value_from v (s ++ b ∷ []) ≡ value_from v s * 10 + (b - 48)
-unfolding value_from
-value_more v [] b = refl
-value_more v (x ∷ s) b = value_more (v * 10 + (x - 48)) s b
 
 pub first_digit : (s : List ℕ) → all_digits s ≡ true → 0 < length s → 48 ≤ get_or s 0 0
 unfolding all_digits
@@ -105,14 +49,6 @@ unfolding digits_number when◌then◌else◌
 in_range_lem s v d e h = rw (d, e, le-leb v largest h)
 
 -- ---- what a field says, by its first byte
-
-pub empty_number : (s : List ℕ) → length s ≡ 0 → number_of s ≡ None
-unfolding number_of when◌then◌else◌
-empty_number s e = rw (eq-eqb (length s) 0 e)
-
-pub zero_number : (s : List ℕ) → 1 < length s → get_or s 0 0 ≡ 48 → number_of s ≡ None
-unfolding number_of leading_zero when◌then◌else◌
-zero_number s h e = rw (ne_eqb (length s) 0 (λ z. omega arith), eq-eqb (get_or s 0 0) 48 e, lt-ltb 1 (length s) h)
 
 pub plain_number : (s : List ℕ) → 0 < length s → (1 < length s → get_or s 0 0 ≡ 48 → ⊥) → number_of s ≡ digits_number s
 unfolding number_of leading_zero when◌then◌else◌

@@ -1,12 +1,12 @@
 -- Laws of bytes and numbers where they stand in a file: a line that is read there gives the request that the grammar says. Assumes nothing.
-use Prim.Native.Nat.{ℕ, suc, ◌+◌, ◌-◌, ◌*◌, ◌<◌, ◌≤◌}
+use Prim.Native.Nat.{ℕ, suc, ◌+◌, ◌-◌, ◌<◌, ◌≤◌}
 use mathlib.Core.Path.{◌≡◌, refl, sym, ◌∙◌}
 use mathlib.Core.Bool.{Bool, true, false, false≢true}
 use mathlib.Core.List.{List, [], ◌∷◌, ◌++◌, append_assoc}
 use native.Mathlib.Nat.{add-zero}
 use native.Mathlib.Omega.{arith}
 use lib.ListN.{length, drop, get_or, length-append, length-take, length-drop, take-append-drop}
-use lib.Seq.{length-take-le, drop-cons, take-suc, drop-drop, take_at, get_or-drop, get_or-take}
+use lib.Seq.{length-take-le, drop-cons, drop-drop, take_at, get_or-drop, get_or-take}
 use lib.Dec.{eqb, leb, ltb}
 use borrow.Author.Tests.{eq-eqb, eqb-true, lt-ltb, ltb-true, ltb-false}
 use Rattle.words.proofs.Laws.{and_true}
@@ -24,7 +24,7 @@ use Rattle.sheet.specs.declared.Line.TheVariants.{Until}
 use Rattle.sheet.specs.declared.Request.TheVariants.{Motor, Input, Scan}
 use Rattle.sheet.proofs.SplitLaws.{Free, free_none, free_more, split_joined, free_joined}
 use Rattle.sheet.proofs.LineLaws.{lines_part}
-use Rattle.sheet.proofs.NumberLaws.{digit_range, all_snoc, value_more, first_digit, spells_number}
+use Rattle.sheet.proofs.NumberLaws.{digit_range, first_digit, spells_number}
 use Rattle.sheet.proofs.WordFieldLaws.{number_word, word_some, word_free}
 
 -- ---- a byte at a place
@@ -65,13 +65,6 @@ module _ (file : List ℕ) (at : ℕ) where
   unfolding between
   between_none = let z : at - at ≡ 0 = omega arith in rw z
 
-  between_more : (i : ℕ) → at ≤ i → i < length file → between at (suc i) file ≡ between at i file ++ get_or file i 0 ∷ []
-  unfolding between
-  between_more i f h =
-      let n : suc i - at ≡ suc (i - at) = omega arith in
-      let m : at + (i - at) ≡ i = omega arith in
-      rw (n, take-suc (drop at file) (i - at) 0 (omega (arith, length-drop at file)), get_or-drop at file (i - at) 0, m)
-
   between_length : (end : ℕ) → end - at ≤ length file - at → length (between at end file) ≡ end - at
   unfolding between
   between_length end h = length-take-le (end - at) (drop at file) (omega (arith, length-drop at file))
@@ -90,20 +83,6 @@ pub record Digits (file : List ℕ) (at value i : ℕ) : Type 0 where
   pub says : value_from 0 (between at i file) ≡ value
 
 module _ (file : List ℕ) (at : ℕ) where
-  pub no_digit_yet : Digits file at 0 at
-  unfolding all_digits value_from
-  no_digit_yet = let z = between_none file at in record { from = omega arith; within = omega arith; digits = rw z; says = rw z }
-
-  pub digit_more : {value i d : ℕ} → Digits file at value i → DigitAt file i d → Digits file at (value * 10 + d) (suc i)
-  digit_more {value} {i} {d} p w =
-      let m = between_more file at i p.from w.inside in
-      record {
-        from = omega (arith, p.from);
-        within = omega (arith, p.from, w.inside);
-        digits = rw (m, all_snoc (between at i file) (get_or file i 0), p.digits, w.is);
-        says = rw (m, value_more 0 (between at i file) (get_or file i 0), p.says, w.value);
-      }
-
   -- a 0 alone
   pub zero_number : is_at file at 48 ≡ true → SaidAt number_of file at 0 (at + 1)
   unfolding between number_of digits_number leading_zero all_digits is_digit value_from when◌then◌else◌
@@ -134,15 +113,6 @@ module _ (file : List ℕ) (at : ℕ) where
       go false e =
           let same : i ≡ at = omega (arith, d.from, ltb-false at i e) in
           absurd (n (sym d.says ∙ rw (same, between_none file at) refl))
-
-  -- no digit but one that is read alone says nothing
-  pub digits_read : {value i : ℕ} → Digits file at value i → is_at file at 48 ≡ false → value ≤ largest → Read number_of file at (then_some (ltb at i) (value, i))
-  unfolding Read
-  digits_read {value} {i} d z h = go (ltb at i) refl
-    where
-      go : (t : Bool) → ltb at i ≡ t → Read number_of file at (then_some t (value, i))
-      go true e = digits_said d z (ltb-true at i e) h
-      go false e = tt
 
 -- a number at a place is a word there
 pub number_said : {file : List ℕ} {at value end : ℕ} → SaidAt number_of file at value end → SaidAt word_of file at value end

@@ -5,7 +5,7 @@ use Rattle.std.specs.Bool.{then_some}
 use Rattle.words.specs.Word.{when◌then◌else◌}
 use Rattle.sheet.specs.Split.{LF, comma, between}
 use Rattle.sheet.specs.Lines.{longest}
-use Rattle.sheet.specs.Number.{is_digit, number_of}
+use Rattle.sheet.specs.Number.{is_digit, value_from, largest, number_of}
 use Rattle.sheet.specs.WordField.{is_hex_digit, hex_digit, hex_from, is_hex_count}
 use Rattle.sheet.specs.Grammar.{letter_i, next_at}
 use Rattle.sheet.specs.declared.Request.{Request}
@@ -16,6 +16,18 @@ is_at file at b = ltb at (length file) && eqb (get_or file at 0) b
 
 unfoldable pub is_digit_at : List ℕ → ℕ → Bool
 is_digit_at file at = ltb at (length file) && is_digit (get_or file at 0)
+
+-- The decimal digits with which bytes begin, as many as there are
+unfoldable pub digit_run : List ℕ → List ℕ
+digit_run [] = []
+digit_run (b ∷ bs) = when is_digit b then b ∷ digit_run bs else []
+
+-- The number with which the bytes from a place on begin, and the place after it. A 0 is read alone, so that none leads.
+unfoldable pub number_at : List ℕ → ℕ → Option (ℕ × ℕ)
+number_at file at =
+    let run = digit_run (drop at file) in
+    when is_at file at 48 then Some (0, at + 1)
+    else then_some (ltb 0 (length run) && leb (value_from 0 run) largest) (value_from 0 run, at + length run)
 
 -- The value of the hexadecimal digit at a place
 unfoldable pub hex_digit_at : List ℕ → ℕ → Option ℕ
