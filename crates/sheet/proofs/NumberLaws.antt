@@ -1,8 +1,8 @@
 -- Laws of digits and the numbers that they say. Assumes nothing.
 use Prim.Native.Nat.{ℕ, suc, ◌+◌, ◌-◌, ◌*◌, ◌<◌, ◌≤◌}
 use mathlib.Core.Path.{◌≡◌, refl, sym, ap, ◌∙◌}
-use mathlib.Core.Bool.{Bool, true, false, ◌&&◌, ◌||◌, false≢true, and-true as and_one, and-false}
-use mathlib.Core.List.{List, [], ◌∷◌}
+use mathlib.Core.Bool.{Bool, true, false, ◌&&◌, ◌||◌, false≢true, and-true as and_one, and-false, and_assoc}
+use mathlib.Core.List.{List, [], ◌∷◌, ◌++◌}
 use native.Mathlib.Decide.{dec_lt}
 use native.Mathlib.Omega.{arith}
 use lib.ListN.{length, get_or}
@@ -26,6 +26,17 @@ value_grows v (b ∷ s) = omega (arith, value_grows (v * 10 + (b - 48)) s)
 pub digit_range : (b : ℕ) → is_digit b ≡ true → (48 ≤ b) × (b ≤ 57)
 unfolding is_digit
 digit_range b e = both_le e
+
+-- one digit more at the end
+pub all_snoc : (s : List ℕ) (b : ℕ) → all_digits (s ++ b ∷ []) ≡ (all_digits s && is_digit b)
+unfolding all_digits
+all_snoc [] b = and_one (is_digit b)
+all_snoc (x ∷ s) b = ap (λ (t : Bool). is_digit x && t) (all_snoc s b) ∙ sym (and_assoc (is_digit x) (all_digits s) (is_digit b))
+
+pub value_more : (v : ℕ) (s : List ℕ) (b : ℕ) → value_from v (s ++ b ∷ []) ≡ value_from v s * 10 + (b - 48)
+unfolding value_from
+value_more v [] b = refl
+value_more v (x ∷ s) b = value_more (v * 10 + (x - 48)) s b
 
 pub first_digit : (s : List ℕ) → all_digits s ≡ true → 0 < length s → 48 ≤ get_or s 0 0
 unfolding all_digits

@@ -1,6 +1,6 @@
 // The next request of a file. The grammar of the two common kinds of lines, I and S, stands here a second time, since to read
-// them once, where they stand, is faster: 107 nanoseconds for 133 (docs/BENCHMARK.md). What cannot be read so is left to the reader
-// of any line: a reading here may fail for any reason, but must not be wrong.
+// them once, where they stand, is faster: 107 nanoseconds a printed line for 133 (docs/BENCHMARK.md). What cannot be read so is
+// left to the reader of any line: a reading here may fail for any reason, but must not be wrong.
 // `file` and `at` are two parameters, and no reader that moves on: a reading that fails has to leave the place as it was.
 ghost use Rattle.std.specs.Prelude.{◌≡◌, true, ◌≤◌};
 ghost use Rattle.sheet.specs.WordField.{word_of};
