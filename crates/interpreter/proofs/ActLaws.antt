@@ -6,6 +6,9 @@ use lib.Seq.{take-set-lt}
 use Rattle.words.specs.Word.{when◌then◌else◌}
 use Rattle.rules.specs.declared.Motor.{Motor}
 use Rattle.rules.specs.declared.Settings.{Settings}
+use Rattle.rules.specs.declared.Refusal.{Refusal}
+use Rattle.rules.specs.Numbers.{number_of}
+use Rattle.rules.proofs.Numbers.{number_positive}
 use Rattle.rules.specs.Record.{fresh}
 use Rattle.rules.specs.Refusals.{most_motors, table_refusal, table_after, part_refusal, part_after}
 use Rattle.rules.proofs.Tables.{table_accepted, table_refused, length_after}
@@ -27,6 +30,10 @@ accepted t r h = grind (arith, nat_tests)
 pub refused : (t : State) (r : Request) → (refusal_for t r ≡ 0 → ⊥) → state_after t r ≡ t
 unfolding state_after when◌then◌else◌
 refused t r h = grind (arith, nat_tests)
+
+-- what a refusal comes from is refused
+pub not_zero : {n : ℕ} (refusal : Refusal) → number_of refusal ≡ n → n ≡ 0 → ⊥
+not_zero refusal e z = absurd (omega (arith, e, z, number_positive refusal))
 
 -- a line that makes no request is refused
 pub not_accepted : (t : State) (r : Request) → refusal_for t r ≡ 0 → r ≡ Refused → ⊥

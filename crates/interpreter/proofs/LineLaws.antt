@@ -1,11 +1,12 @@
 -- Runs of I lines, and which line stands at a place. Assumes nothing.
 use Rattle.std.specs.List.{list_all}
-use Rattle.std.proofs.Common.{ℕ, ◌-◌, ◌≤◌, ◌≡◌, refl, ◌∙◌, true, List, arith, length, take, set, length-set, Option, Some}
+use Rattle.std.proofs.Common.{ℕ, ◌-◌, ◌<◌, ◌≤◌, ◌≡◌, refl, ◌∙◌, true, List, arith, length, take, set, length-set, Option, Some}
 use lib.Seq.{take-set-lt}
 use Rattle.rules.specs.Refusals.{word_ok}
 use Rattle.sheet.specs.declared.Request.{Request}
 use Rattle.std.proofs.lemmas.Option.{some_pair_parts}
 use Rattle.sheet.specs.declared.Request.TheVariants.{Input as I}
+use Rattle.sheet.specs.Grammar.{next_at}
 use Rattle.sheet.proofs.RequestLaws.{taken}
 use Rattle.interpreter.specs.State.{input_refusal}
 use Rattle.interpreter.specs.Lines.{InputLines}
@@ -17,6 +18,10 @@ use Rattle.interpreter.proofs.Kept.{all_set, word_right}
 word_kept : (words : List ℕ) (number word held : ℕ) → input_refusal held number word ≡ 0 → list_all word_ok (take held words) ≡ true
     → list_all word_ok (take held (set words (number - 1) word)) ≡ true
 word_kept words number word held h e = grind (arith, take-set-lt, all_set, input_there, word_right)
+
+-- a line from here on leads nearer to the end
+pub closer : (file : List ℕ) (at here next : ℕ) (r : Request) → at ≤ here → next_at file here ≡ Some (r, next) → length file - next < length file - at
+closer file at here next r l found = let line = taken file here r next found in omega (arith, line.further, line.within)
 
 module _ {file words : List ℕ} {held at line : ℕ} where
   -- as many words as before, in their range if they were

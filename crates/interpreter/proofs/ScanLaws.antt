@@ -1,20 +1,27 @@
 -- A scan motor by motor: each motor in use is accepted by itself exactly where the table of them is. Assumes nothing.
 use Rattle.std.specs.List.{list_all}
-use Rattle.std.proofs.Common.{ℕ, ◌<◌, ◌≤◌, ◌≡◌, refl, ◌∙◌, true, false, List, arith, length, get_or, take, leb-true}
+use Rattle.std.proofs.Common.{ℕ, ◌<◌, ◌≤◌, ◌≡◌, refl, sym, ◌∙◌, Bool, true, false, List, arith, length, get_or, take, leb-true}
 use Rattle.std.proofs.lemmas.Bool.Decides.{nat_tests}
 use Rattle.std.proofs.lemmas.Grind.{common_steps}
+use Rattle.std.proofs.lemmas.Bool.{false≢true}
+use Rattle.std.specs.Prelude.{Some, None, Result}
+use Rattle.std.specs.Result.{is_ok}
 use Rattle.words.specs.Word.{when◌then◌else◌}
 use Rattle.rules.specs.declared.Motor.{Motor}
 use Rattle.rules.specs.Record.{with_status}
 use Rattle.rules.specs.Steps.{reading, step}
 use Rattle.rules.specs.Resting.{rests, rested_status}
 use Rattle.rules.specs.Refusals.{most_motors, in_range, word_ok, period_ok, misfit, one_refusal, table_refusal, part_refusal, part_after}
+use Rattle.rules.specs.declared.Refusal.{Refusal}
+use Rattle.rules.specs.Numbers.{code_of}
+use Rattle.rules.proofs.Numbers.{is_ok-from_zero}
 use Rattle.rules.proofs.Range.{one_in_limits, steppable}
 use Rattle.rules.proofs.Resting.{resting}
 use Rattle.rules.proofs.Tables.{list_all_each, one_accepts, accepted, part_front}
+use Rattle.sheet.specs.Grammar.{next_at}
 use Rattle.sheet.specs.declared.Request.TheVariants.{Scan as S}
 use Rattle.interpreter.specs.State.{State, scan_refusal, refusal_for, view_of, held_of}
-use Rattle.interpreter.specs.Lines.{ReadyBench}
+use Rattle.interpreter.specs.Lines.{FoundScan, ReadyBench}
 use Rattle.interpreter.specs.declared.Bench.{Bench}
 use Rattle.interpreter.proofs.ActLaws.{in_array, scan_code}
 use Rattle.interpreter.proofs.Kept.{after_in_range}
@@ -58,7 +65,15 @@ pub unready : (t : State) (period : ℕ) → (refusal_for t (S 1) ≡ 0 → ⊥)
 unfolding refusal_for scan_refusal table_refusal period_ok when◌then◌else◌
 unready t period n h = grind (arith, nat_tests)
 
+pub refused_all : (t : State) (r : Result Unit Refusal) {b : Bool} → code_of r ≡ refusal_for t (S 1) → b ≡ is_ok r → b ≡ false
+    → (period : ℕ) → refusal_for t (S period) ≡ 0 → ⊥
+refused_all t r code e f period = unready t period (λ z. false≢true (sym f ∙ e ∙ is_ok-from_zero r (code ∙ z)))
+
 -- none is with a period out of range
 pub untimely : (t : State) (period : ℕ) → period_ok period ≡ false → refusal_for t (S period) ≡ 0 → ⊥
 unfolding refusal_for scan_refusal table_refusal when◌then◌else◌
 untimely t period e h = grind (arith, nat_tests)
+
+-- and so none is where no S line has such a period
+pub no_scan : (file : List ℕ) (at : ℕ) → FoundScan file at None → (t : State) (period next : ℕ) → next_at file at ≡ Some (S period, next) → refusal_for t (S period) ≡ 0 → ⊥
+no_scan file at missed t period next found = untimely t period (missed period next found)

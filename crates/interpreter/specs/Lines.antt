@@ -24,8 +24,8 @@ pub data InputLines (file : List ℕ) (held : ℕ) (words : List ℕ) (at line :
       → input_refusal held number word ≡ 0 → InputLines file held words at line (set later (number - 1) word) next (next_number k)
 
 -- All of them, up to the first line that is refused or of another kind
-pub record InputRun (file : List ℕ) (held : ℕ) (words : List ℕ) (at line : ℕ) (r : Inputs) : Type 0 where
-  pub lines : InputLines file held words at line r.words r.at r.line
+pub record InputRun (file : List ℕ) (held : ℕ) (from r : Inputs) : Type 0 where
+  pub lines : InputLines file held from.words from.at from.line r.words r.at r.line
   pub over : NoInput file held r.at
 
 -- The line at a place is an S line, and its period is one of a scan; after None it is not.

@@ -1,5 +1,5 @@
 // What a request does to a bench.
-ghost use Rattle.std.specs.Prelude.{◌≡◌, ◌≤◌, length};
+ghost use Rattle.std.specs.Prelude.{◌≡◌, ◌≤◌, ◌-◌, length, IfOk};
 ghost use Rattle.rules.specs.Numbers.{code_of};
 ghost use Rattle.rules.specs.Refusals.{most_motors, step_all};
 ghost use Rattle.totals.specs.Running.{all_totals};
@@ -24,7 +24,7 @@ pub fn is_too_long(length: usize) -> bool
     LARGEST_FILE < length
 }
 
-// The number after n, of a scan or a line. Its definition is not that of a sum of the totals, so it goes by the library as `totals::plus` does.
+// The number after n, of a scan or a line; `totals::plus(n, 1)` is no shorter than the library's sum.
 #[tactic(auto, unfolding(crate::specs::State::next_number))]
 pub fn next_number(n: u32) -> u32
     ensures { result ≡ next_number n }
@@ -59,9 +59,11 @@ fn is_there(held: usize, number: u32) -> bool
     1 <= number && number as usize <= held
 }
 
-#[tactic(auto, unfolding(words::specs::Opened::choices, crate::specs::State::input_refusal))]
-pub fn accept_input(held: usize, number: u32, word: u32) -> Result<(), Refusal>
-    ensures { code_of result ≡ input_refusal held number word }
+// The place, among the words held, of the motor that an I line names.
+#[tactic(auto, unfolding(words::specs::Opened::choices, crate::specs::State::input_refusal, crate::specs::State::is_there))]
+pub(crate) fn accept_input(held: usize, number: u32, word: u32) -> Result<usize, Refusal>
+    ensures code { code_of result ≡ input_refusal held number word }
+    ensures place { IfOk result (λ i. i ≡ number - 1) }
 {
     if !is_there(held, number) {
         return Err(Refusal::Absent);
@@ -69,7 +71,7 @@ pub fn accept_input(held: usize, number: u32, word: u32) -> Result<(), Refusal>
     if !motor::is_word_ok(word) {
         return Err(Refusal::Word);
     }
-    Ok(())
+    Ok(number as usize - 1)
 }
 
 // The totals of some motors after a scan of them, by their records before it and after it.
@@ -93,14 +95,7 @@ impl Bench {
     pub fn empty() -> Bench
         ensures { view_of result ≡ empty_state }
     {
-        let unused = book::start(Settings::default());
-        Bench {
-            motors: [unused; MOST_MOTORS],
-            words: [0; MOST_MOTORS],
-            count: 0,
-            scans: 0,
-            totals: [totals::none(); MOST_MOTORS],
-        }
+        Bench::default()
     }
 
     // How many motors it has: a count past its arrays counts as all of them.
@@ -149,8 +144,8 @@ impl Bench {
     fn set_word(&mut self, number: u32, word: u32) -> Result<(), Refusal>
         ensures { Acts self.old (I number word) result self.new }
     {
-        accept_input(self.held(), number, word)?;
-        self.words[number as usize - 1] = word;
+        let i = accept_input(self.held(), number, word)?;
+        self.words[i] = word;
         Ok(())
     }
 
@@ -169,8 +164,9 @@ impl Bench {
         ensures { Acts self.old (S period) result self.new }
     {
         let held = self.held();
-        // The totals go by the motors before the scan. Two copies, since the check lets no field behind `&mut self` be read while another
-        // is lent; no scan of a run pays for them, as the programs scan in loops of their own.
+        // The totals go by the motors before the scan. Two copies: the check lets no part of a field behind `&mut self` be read while a part
+        // of another is lent, and with slices of the whole fields, lent first, the proof didn't close. No scan of a run pays for them, as
+        // the programs scan in loops of their own.
         let before = *self;
         table::scan(&mut self.motors[..held], &before.words[..held], period)?;
         let after = self.motors;

@@ -1,5 +1,5 @@
 // Lines read ahead of what they do: runs of I lines, which touch nothing but the words that the motors hold, and S lines.
-ghost use Rattle.std.specs.Prelude.{◌≡◌, min, IfSome, IfNone};
+ghost use Rattle.std.specs.Prelude.{min, Some, None, IfSome, IfNone};
 ghost use Rattle.rules.specs.Refusals.{most_motors};
 ghost use Rattle.interpreter.specs.Lines.{Found, NoInput, InputRun, FoundScan};
 
@@ -7,7 +7,7 @@ use crate::acts::{accept_input, next_number};
 use sheet::{Request, next_request};
 use table::MOST_MOTORS;
 
-// An I line that is accepted, and the place of the next line.
+// An I line that is accepted, by its motor's number, as `Found` has it, and the place of the next line.
 #[derive(Clone, Copy)]
 struct InputLine {
     number: u32,
@@ -44,7 +44,7 @@ impl Inputs {
     // The I lines from here on, up to the first line that is refused or of another kind.
     #[tactic(auto, using(crate::proofs::ActLaws::input_there), unfolding(rules::specs::Refusals::most_motors))]
     pub fn take(&mut self, file: &[u8], count: usize)
-        ensures { InputRun file.now (min count most_motors) self.old.words self.old.at self.old.line self.new }
+        ensures { InputRun file.now (min count most_motors) self.old self.new }
     {
         let held = count.min(MOST_MOTORS);
         while let Some(input) = next_input(file, held, self.at) {
@@ -57,7 +57,8 @@ impl Inputs {
 
 // The S line at a place of a file, if its period is one of a scan: the period, and the place of the next line.
 pub fn next_scan(file: &[u8], at: usize) -> Option<(u32, usize)>
-    ensures { FoundScan file.now at result }
+    ensures found { IfSome result (λ scan. FoundScan file.now at (Some scan)) }
+    ensures missed { IfNone result (FoundScan file.now at None) }
 {
     let (request, next) = next_request(file, at)?;
     let Request::Scan { period } = request else {

@@ -1,13 +1,13 @@
 use Rattle.std.proofs.Common.{arith}
-use Rattle.sheet.proofs.RequestLaws.{taken}
 use Rattle.interpreter.specs.Lines.InputLines.{none, one_more}
+use Rattle.interpreter.proofs.LineLaws.{closer}
 use Rattle.interpreter.proofs.lines.Inputs.take.Goals as goal
 
 pub loop-input-init : goal.loop-input-init
 loop-input-init c = none
 
 pub loop-input-smaller : goal.loop-input-smaller
-loop-input-smaller c = let line = taken _ _ _ _ c.in-Some.ensures.found.0 in omega (arith, line.further, line.within)
+loop-input-smaller c = closer _ _ _ _ _ (omega arith) c.in-Some.ensures.found.0
 
 pub loop-input-preserved : goal.loop-input-preserved
 loop-input-preserved c =
