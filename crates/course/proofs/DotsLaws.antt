@@ -8,7 +8,10 @@ use Rattle.sheet.specs.declared.Request.TheVariants.{Refused}
 use Rattle.sheet.proofs.RequestLaws.{Step, requests_end, taken, done}
 use Rattle.course.specs.Through.{Through}
 use Rattle.course.specs.Through.Through.{none, accepted, refused, ended}
-use Rattle.course.specs.Dots.{other, dots_of, dots_opening, dots_text, dots_lines}
+use Rattle.report.specs.Puts.{Puts}
+use Rattle.report.specs.declared.page.Page.{Page}
+use Rattle.course.specs.Walk.{Begin}
+use Rattle.course.specs.Dots.{other, dots_of, dots_opening, dots_text, dots_lines, dots}
 
 unfoldable left : List ℕ → ℕ → List ℕ
 left file at = when ltb (length file) at then [] else dots_of (requests_of (drop at file))
@@ -59,3 +62,7 @@ dots_whole {file} {piece} {from} {p} b through past = go (ltb 65536 (length file
         → (when z then 33 ∷ [] else dots_of (requests_of file)) ≡ (when z then 33 ∷ [] else []) ++ piece
     go true e f = ap (λ (l : List ℕ). 33 ∷ l) (sym (left_past file from (omega (arith, f))) ∙ all)
     go false e f = sym (left_here file 0 (omega arith)) ∙ ap (left file) (sym f) ∙ all
+
+pub dots_begun : {C : Type 0} (at : C → ℕ) {file : List ℕ} {c : C} {page after : Page} → at c ≡ (when ltb 65536 (length file) then length file + 1 else 0)
+    → Puts page (dots_opening file) after → Begin (dots at) file c page after
+dots_begun at begins put = record { put = put; begins = begins; whole = λ {piece} {d} through past. dots_whole begins through past }

@@ -1,5 +1,7 @@
 // A walk through the lines of a file, which prints what they do, a lent buffer at a time. What a program makes of a line is its own,
-// behind the trait `Course`; that it comes to the print of the whole file is proved here, once.
+// behind the trait `Course`, and so is the proof that lines up to the end make the print of the whole file (`Begin.whole`). That the
+// walk by buffers writes what its lines print, and comes to the end, is proved here, once.
+// The file and a page go side by side: the file lasts for the walk, and a page for one buffer.
 #![tactic(auto)]
 
 ghost use Rattle.std.specs.Prelude.{ℕ, ◌≤◌, ◌≡◌, length, IfSome, OnOk};
@@ -14,7 +16,8 @@ use std::alloc::Global;
 use std::io;
 use std::io::{Read, Write};
 
-// As much as a pipe holds, so that prints cost few writes.
+// As much as a pipe holds, so that prints cost few writes. It is no BufWriter: a line's print is put whole into a page, whose bytes lie
+// in fixed memory.
 const ROOM_OUT: usize = 65536;
 
 // A place between two lines of a file, with what the lines up to there have led to.
@@ -29,6 +32,7 @@ pub trait Course: Copy {
     fn begin(file: &[u8], page: &mut Page) -> Self
         ensures { Begin walk file.now result page.old page.new };
 
+    // A place past the file's end means that all is put.
     fn at(&self) -> usize
         ensures { result ≡ place walk self.now };
 
@@ -36,7 +40,8 @@ pub trait Course: Copy {
     fn scans(&mut self, file: &[u8], page: &mut Page)
         ensures { Scans walk file.now self.old page.old self.new page.new };
 
-    // The next line, which is no accepted scan, or the file's end. `fill` alone calls it, after `scans`.
+    // The next line, which is no accepted scan, or the file's end. `fill` alone calls it, after `scans`. That it reads the line's request
+    // is all that the programs' lines have alike.
     fn line(&mut self, file: &[u8], page: &mut Page)
         requires here { place walk self.old ≤ length file.now }
         requires no_scan { NoScan walk file.now self.old }

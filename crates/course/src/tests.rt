@@ -11,11 +11,7 @@ use std::test::Fail;
 fn is_dotted(request: Request) -> bool
     ensures { result ≡ eqb (other request) 0 }
 {
-    match request {
-        Request::Motor { .. } => true,
-        Request::Input { .. } => true,
-        _ => false,
-    }
+    matches!(request, Request::Motor { .. } | Request::Input { .. })
 }
 
 #[derive(Clone, Copy)]
