@@ -20,7 +20,7 @@ use Rattle.report.specs.declared.page.Page.{Page}
 use Rattle.report.specs.Print.{refusal_of}
 use Rattle.report.proofs.PutLaws.{puts_none}
 use Rattle.report.proofs.PrintLaws.{refusal_length}
-use Rattle.interpreter.specs.State.{State, next_number, with_words, with_word, refusal_for, changed, state_after, view_of}
+use Rattle.interpreter.specs.State.{State, next_number, with_words, with_word, refusal_for, changed, state_after, view_of, held_of}
 use Rattle.interpreter.specs.Lines.{InputLines, InputRun}
 use Rattle.interpreter.specs.Lines.InputLines.{none as no_line, one_more}
 use Rattle.interpreter.specs.declared.Bench.{Bench}
@@ -42,6 +42,10 @@ use Rattle.print.proofs.PrintLaws.{answer_length, end_length}
 abbrev pub sitting : Bench → ℕ → ℕ → Sitting
 sitting bench at line = record { bench = bench; at = at; line = line }
 
+-- what a run of I lines goes by
+abbrev pub inputs_of : Sitting → Inputs
+inputs_of s = record { words = s.bench.words; at = s.at; line = s.line }
+
 module _ {file : List ℕ} {s : Sitting} {page after : Page} where
   -- no line is left
   pub at_end_lem : s.at ≤ length file → next_at file s.at ≡ None → length s.bench.motors ≡ 32 → Puts page (at_end (view_of s.bench)) after
@@ -58,12 +62,12 @@ module _ {file : List ℕ} {s : Sitting} {page after : Page} where
 
   module _ {r : Request} {next : ℕ} (found : next_at file s.at ≡ Some (r, next)) where
     -- a request that is refused
-    pub stops : {refusal : ℕ} → refusal ≡ refusal_for (view_of s.bench) r → (refusal ≡ 0 → ⊥) → Puts page (refusal_of s.line refusal) after
+    pub stops : {refusal : ℕ} → refusal ≡ refusal_for (view_of s.bench) r → (refusal_for (view_of s.bench) r ≡ 0 → ⊥) → Puts page (refusal_of s.line refusal) after
         → Advance print_walk file s page (sitting s.bench (length file + 1) s.line) after
     stops {refusal} code h p =
         record {
           piece = refusal_of s.line refusal;
-          through = rw code (refused none found (λ q. h (code ∙ q)));
+          through = rw code (refused none found h);
           put = p;
           short = omega (arith, refusal_length s.line refusal);
           further = let line = Taken-step file s.at r next found in omega (arith, line.further, line.within);
@@ -107,7 +111,7 @@ inputs_through {held = held} t count e f (one_more {later} {number = number} {wo
     rw (← word_set t count number word later n.0 (omega (arith, n.1))) (accepted (inputs_through t count e f s) found (rw e h))
 
 -- what a run of I lines does to a print
-pub run_of_inputs : (file words : List ℕ) (held at line : ℕ) (i : Inputs) → InputRun file held words at line i → Run file held words at line i
+pub run_of_inputs : (file words : List ℕ) (held at line : ℕ) (i : Inputs) → InputRun file held (record { words = words; at = at; line = line }) i → Run file held words at line i
 run_of_inputs file words held at line i r =
     record {
       through = λ t count e f. inputs_through t count e f r.lines;
@@ -124,7 +128,7 @@ abbrev pub with_inputs : Bench → List ℕ → Bench
 with_inputs b words = record { motors = b.motors; totals = b.totals; words = words; count = b.count; scans = b.scans }
 
 module _ {file : List ℕ} {s here : Sitting} {page after : Page} (r : Lines-run print_walk file s page here after) (i : Inputs) (is : length here.bench.motors ≡ 32)
-    (run : InputRun file (min here.bench.count most_motors) here.bench.words here.at here.line i) where
+    (run : InputRun file (held_of here.bench) (inputs_of here) i) where
   -- a run of I lines more
   pub run_inputs : Lines-run print_walk file s page (sitting (with_inputs here.bench i.words) i.at i.line) after
   unfolding with_words

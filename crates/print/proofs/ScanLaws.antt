@@ -1,7 +1,7 @@
 -- A scan taken motor by motor, each printed as it is scanned: how that comes to the scan of the table. Assumes nothing.
 use Rattle.std.specs.List.{list_all}
 use Prim.Native.Nat.{ℕ, ◌+◌, ◌<◌, ◌≤◌, min}
-use mathlib.Core.Path.{◌≡◌, sym, ap, ◌∙◌}
+use mathlib.Core.Path.{◌≡◌, refl, sym, ap, ◌∙◌}
 use mathlib.Core.Bool.{true}
 use mathlib.Core.List.{List}
 use native.Mathlib.Nat.{min-le_right}
@@ -15,6 +15,7 @@ use Rattle.rules.specs.declared.Motor.{Motor}
 use Rattle.rules.specs.declared.Status.{Status}
 use Rattle.rules.specs.Record.{on, with_status}
 use Rattle.rules.specs.declared.Reading.{Reading}
+use Rattle.rules.specs.declared.Reading.TheVariants.{Off, On, BothOpen, BothClosed}
 use Rattle.rules.specs.Steps.{reading, position_read, step}
 use Rattle.rules.specs.Resting.{rests, rested_status}
 use Rattle.rules.specs.Refusals.{most_motors, word_ok, period_ok, one_refusal, one_after, step_all, part_refusal, part_after}
@@ -30,7 +31,7 @@ use Rattle.report.specs.Puts.{Puts}
 use Rattle.report.specs.declared.page.Page.{Page}
 use Rattle.report.specs.Print.{row_of}
 use Rattle.report.proofs.PutLaws.{puts_none, puts_then}
-use Rattle.interpreter.specs.State.{next_number}
+use Rattle.interpreter.specs.State.{next_number, held_of}
 use Rattle.interpreter.specs.Lines.{InputRun, ReadyBench}
 use Rattle.print.specs.Print.{motor_row, rows_of}
 use Rattle.course.specs.Walk.{Room, Run}
@@ -42,9 +43,17 @@ use Rattle.interpreter.proofs.ActLaws.{take_used}
 use Rattle.print.proofs.PrintLaws.{rows_more}
 use Rattle.interpreter.proofs.ScanLaws.{rested, due, all_due, range_kept}
 use Rattle.interpreter.proofs.LineLaws.{words_right, same_size as words_size}
-use Rattle.print.proofs.AdvanceLaws.{sitting, run_scan}
+use Rattle.print.proofs.AdvanceLaws.{sitting, inputs_of, run_scan}
 
 -- ---- one motor
+
+-- no other reading gives the position On
+not_on : (r : Reading) → (r ≡ On → ⊥) → position_read r ≡ on → ⊥
+unfolding position_read
+not_on Off other e = absurd (omega (arith, e))
+not_on On other e = other refl
+not_on BothOpen other e = absurd (omega (arith, e))
+not_on BothClosed other e = absurd (omega (arith, e))
 
 -- lists with the motor and its totals after its scan, at rest or not
 module _ (ms : List Motor) (ts : List Totals) (i : ℕ) (m : Motor) (t : Totals) (word period : ℕ) (ok : one_refusal m word period ≡ 0) {r : Reading} (read : r ≡ reading m.settings word) where
@@ -58,9 +67,9 @@ module _ (ms : List Motor) (ts : List Totals) (i : ℕ) (m : Motor) (t : Totals)
         ap (set ts i) (rw (rested m word period ok e, f, read) (sym (rest_totals t m word period (reading m.settings word) (and_true _ _ (and_true _ _ e).0).0)))
 
     -- without a sure On reading they stay
-    pub rested_totals_kept : (d : Totals) → (position_read r ≡ on → ⊥) → t ≡ get_or ts i d → ts ≡ set ts i (scan_totals t m word period)
+    pub rested_totals_kept : (d : Totals) → (r ≡ On → ⊥) → t ≡ get_or ts i d → ts ≡ set ts i (scan_totals t m word period)
     unfolding on_after when◌then◌else◌
-    rested_totals_kept d other same = sym (set-get_or ts i d) ∙ ap (set ts i) (sym same) ∙ set_rested_totals (rw (ne_eqb (position_read r) on other))
+    rested_totals_kept d other same = sym (set-get_or ts i d) ∙ ap (set ts i) (sym same) ∙ set_rested_totals (rw (ne_eqb (position_read r) on (not_on r other)))
 
   module _ {n : Motor} (f : n ≡ one_after m word period) where
     pub set_scanned : set ms i n ≡ set ms i (step m word period)
@@ -115,7 +124,7 @@ module _ {motors₀ : List Motor} {totals₀ : List Totals} {words : List ℕ} {
 
 -- ---- a run of I lines and an S line, whose motors are all scanned and printed
 
-module _ {file : List ℕ} {s here : Sitting} {page after : Page} (r : Run print_walk file s page here after) (i : Inputs) (is : length here.bench.motors ≡ 32) (ts : length here.bench.totals ≡ 32) (js : length here.bench.words ≡ 32) (ready : ReadyBench here.bench) (run : InputRun file (min here.bench.count most_motors) here.bench.words here.at here.line i) where
+module _ {file : List ℕ} {s here : Sitting} {page after : Page} (r : Run print_walk file s page here after) (i : Inputs) (is : length here.bench.motors ≡ 32) (ts : length here.bench.totals ≡ 32) (js : length here.bench.words ≡ 32) (ready : ReadyBench here.bench) (run : InputRun file (held_of here.bench) (inputs_of here) i) where
   abbrev held : ℕ
   held = min here.bench.count most_motors
 
@@ -129,9 +138,10 @@ module _ {file : List ℕ} {s here : Sitting} {page after : Page} (r : Run print
   right = words_right run.lines ready.words
 
   module _ (period next : ℕ) (found : next_at file i.at ≡ Some (S period, next)) (time : period_ok period ≡ true) where
-    -- each motor in use is accepted
-    pub each_due : (k : ℕ) (d : Motor) → k < min here.bench.count most_motors → one_refusal (get_or here.bench.motors k d) (get_or i.words k 0) period ≡ 0
-    each_due k d l = due here.bench.motors i.words held few is js₁ ready.records right period time k d l
+    -- each motor in use is accepted at its turn
+    pub turn_due : {scans k : ℕ} {from to : Page} {motors : List Motor} {totals : List Totals} → Scanning here.bench.motors here.bench.totals i.words period scans from motors totals to k
+        → (d : Motor) → k < held_of here.bench → one_refusal (get_or motors k d) (get_or i.words k 0) period ≡ 0
+    turn_due {k = k} scan d l = rw (waiting scan d) (due here.bench.motors i.words held few is js₁ ready.records right period time k d l)
 
     module _ {motors : List Motor} {totals : List Totals} {later : Page} {k : ℕ} (all : k ≡ min here.bench.count most_motors) (scan : Scanning here.bench.motors here.bench.totals i.words period (next_number here.bench.scans) after motors totals later k) where
       abbrev pub after_scan : Sitting

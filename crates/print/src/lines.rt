@@ -14,10 +14,9 @@ use report::{Page, TotalsRow};
 use rules::{Motor, Refusal};
 use sheet::next_request;
 use totals::Totals;
-use words::choose;
 
 // A motor's T line; no `From`, as for `row` of a scan.
-#[tactic(auto, unfolding(crate::specs::Print::totals_row, totals::specs::Totals::under_way_in, rules::specs::Record::idle))]
+#[tactic(auto, unfolding(words::specs::Opened::choices, crate::specs::Print::totals_row, totals::specs::Totals::under_way_in, rules::specs::Record::idle))]
 fn totals_row(number: u32, m: Motor, t: Totals) -> TotalsRow
     ensures { result ≡ totals_row number (under_way_in m.status) t }
 {
@@ -27,7 +26,7 @@ fn totals_row(number: u32, m: Motor, t: Totals) -> TotalsRow
         confirmed: t.confirmed,
         displaced: t.displaced,
         overdue: t.overdue,
-        underway: choose(m.status.command == 0, 0, 1),
+        underway: u32::from(m.status.command != 0),
         on: t.on,
         best: t.best,
         worst: t.worst,
@@ -72,8 +71,8 @@ impl Course for Sitting {
         self.at
     }
 
-    // A bench of which a scan would be refused for more than its period is left as it is. Dump's words are the same: of a bench, which
-    // crate `course` doesn't know.
+    // A bench of which a scan would be refused for more than its period is left as it is. Dump's `scans` is the same text: it asks a
+    // bench, and `course` lies below `interpreter`.
     fn scans(&mut self, file: &[u8], page: &mut Page) {
         if self.bench.accept_scan(1).is_ok() {
             self.scan_lines(file, page);

@@ -17,8 +17,14 @@ bench_of motors totals words count scans = record { motors = motors; totals = to
 abbrev pub invariant-loop-inputs : goal.invariant-loop-inputs
 invariant-loop-inputs l =
     let bench = bench_of l.motors l.totals l.inputs.words l.count l.scans in
-    (length l.motors ≡ 32) × (length l.totals ≡ 32) × (length l.inputs.words ≡ 32) × ReadyBench bench × Run print_walk l.file l.initial.self l.initial.page (sitting bench l.inputs.at l.inputs.line) l.page
-    × (l.initial.self.at ≤ length l.file → l.inputs.at ≤ length l.file)
+    record {
+      motors : length l.motors ≡ 32;
+      totals : length l.totals ≡ 32;
+      words : length l.inputs.words ≡ 32;
+      ready : ReadyBench bench;
+      run : Run print_walk l.file l.initial.self l.initial.page (sitting bench l.inputs.at l.inputs.line) l.page;
+      within : l.initial.self.at ≤ length l.file → l.inputs.at ≤ length l.file;
+    }
 
 abbrev pub decreases-loop-inputs : goal.decreases-loop-inputs
 decreases-loop-inputs l = length l.file - l.inputs.at

@@ -1,5 +1,5 @@
 use Rattle.std.proofs.Common.{◌≡◌, length, sym, ◌∙◌, arith}
-use Rattle.rules.proofs.Numbers.{number_positive}
+use Rattle.interpreter.proofs.ActLaws.{not_zero}
 use Rattle.print.proofs.AdvanceLaws.{at_end_lem, goes_on_quietly, stops}
 use Rattle.print.proofs.lines.SittingCourse.line.Goals as goal
 
@@ -11,8 +11,7 @@ returns-in-Ok c =
 pub returns-in-Err : goal.returns-in-Err
 returns-in-Err c =
     rw c.in-Err.ensures.unchanged
-    (stops (sym c.next_request.ensures ∙ c.in-Some.is) (c.from.ensures ∙ c.in-Err.ensures.refusal) (λ z. absurd (omega (arith, c.from.ensures, number_positive c.in-Err.refusal, z)))
-    c.refusal.ensures)
+    (stops (sym c.next_request.ensures ∙ c.in-Some.is) (c.from.ensures ∙ c.in-Err.ensures.refusal) (not_zero _ c.in-Err.ensures.refusal) c.refusal.ensures)
 
 pub returns-in_default : goal.returns-in_default
 returns-in_default c =
