@@ -9,8 +9,8 @@ mod tests;
 
 use interpreter::Bench;
 
-// A bench at a place of a file, where the line of this number begins. A place past the file's end: all is printed;
-// as an Option it would be asked for at each line.
+// A bench at a place of a file, where the line of this number begins. A place past the file's end says that all is printed. It is no
+// Option: the field is public, and callers go by the number, as `scans` and `line` do, which would have to unpack it.
 #[derive(Clone, Copy)]
 pub struct Sitting {
     pub bench: Bench,

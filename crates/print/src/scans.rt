@@ -32,8 +32,8 @@ fn row(scan: u32, number: u32, m: Motor) -> Row
 
 impl Sitting {
     // The I and S lines from here on, up to the first that is refused or of another kind, and as long as there is room. Each motor is
-    // printed as it is scanned. What a scan writes is in locals meanwhile: with the bench's own arrays in their place a run takes 8 in 100
-    // more instructions.
+    // printed as it is scanned. What a scan writes is in locals meanwhile, and one function does it: on the bench's own arrays a run takes 8
+    // in 100 more instructions, and with a function for one motor's scan, which is lent the motor and its totals, 1.4 in 100.
     #[tactic(auto, unfolding(rules::specs::Refusals::most_motors))]
     pub(crate) fn scan_lines(&mut self, file: &[u8], page: &mut Page)
         requires { refusal_for (view_of self.old.bench) (S 1) ≡ 0 }
@@ -55,8 +55,8 @@ impl Sitting {
                 break;
             };
             scans = next_number(scans);
-            // By index: after a walk over `iter_mut` with the totals beside it nothing would be known of the records. As `step` of dump, but
-            // with the totals, of which a motor at rest has the time On alone to count.
+            // By index: after a walk over `iter_mut` with the totals beside it nothing would be known of the records. The body is dump's
+            // `step` with the totals, of which a motor at rest has the time On alone to count.
             for i in 0..held {
                 // `m` is handed on nowhere, and so never copied whole
                 let word = inputs.words[i];

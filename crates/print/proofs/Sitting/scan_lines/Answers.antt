@@ -1,6 +1,5 @@
 use Rattle.std.proofs.Common.{ℕ, ◌≡◌, length, get_or, set, refl, sym, ◌∙◌, arith}
 use Rattle.rules.specs.Record.{with_status}
-use Rattle.rules.proofs.Numbers.{is_ok-from_zero}
 use Rattle.rules.specs.Steps.{step}
 use Rattle.std.proofs.lemmas.Bool.{false≢true}
 use Rattle.rules.specs.declared.Motor.{Motor}
