@@ -17,7 +17,7 @@ use Rattle.sheet.proofs.RequestLaws.{taken}
 use Rattle.report.specs.Puts.{Puts}
 use Rattle.report.specs.declared.page.Page.{Page}
 use Rattle.report.proofs.PutLaws.{puts_none}
-use Rattle.interpreter.specs.State.{State, next_number, with_motor, with_words, with_word, scan_refusal, with_scan, refusal_for, changed, state_after, view_of}
+use Rattle.interpreter.specs.State.{State, next_number, with_motor, with_words, with_word, scan_refusal, with_scan, refusal_for, changed, state_after, view_of, held_of}
 use Rattle.interpreter.specs.Lines.{InputLines, InputRun, ReadyBench}
 use Rattle.interpreter.specs.Lines.InputLines.{none as no_line, one_more}
 use Rattle.interpreter.specs.declared.Bench.{Bench}
@@ -30,7 +30,7 @@ use Rattle.course.specs.Through.Through.{none, accepted, refused, ended}
 use Rattle.course.specs.Walk.{NoScan, Advance, Run}
 use Rattle.course.proofs.Runs.{run_quietly}
 use Rattle.dump.specs.Dump.{output_states}
-use Rattle.dump.specs.Advance.{Moment, moment, bench_at, moment_of, state_of, past_end, clock_after, moment_after, first_text, scan_text, added, lines, recorded}
+use Rattle.dump.specs.Advance.{Moment, moment, bench_at, moment_of, state_of, past_end, clock_after, moment_after, first_text, scan_text, added, dump_lines, dump_walk}
 use Rattle.dump.specs.declared.Recording.{Recording}
 use Rattle.dump.proofs.SignalLaws.{first_length, scan_length}
 
@@ -51,7 +51,7 @@ unfolding most_motors
 few b is = omega (arith, used b.count b.motors is)
 
 -- an accepted line that is no scan adds nothing, and takes no time
-quiet : (file : List ℕ) (s : Recording) (r : Request) (next : ℕ) → next_at file s.at ≡ Some (r, next) → refusal_for (view_of s.bench) r ≡ 0 → NoScan recorded file s
+quiet : (file : List ℕ) (s : Recording) (r : Request) (next : ℕ) → next_at file s.at ≡ Some (r, next) → refusal_for (view_of s.bench) r ≡ 0 → NoScan dump_walk file s
     → (added (moment_of s) (clock_after s.time r) r ≡ []) × (clock_after s.time r ≡ s.time)
 unfolding added clock_after
 quiet file s (M number ops1 ops2 w u) next at h n = (refl, refl)
@@ -62,7 +62,7 @@ quiet file s Refused next at h n = (refl, refl)
 -- the dump ends, at the end of the file or at a refused line
 module _ {file : List ℕ} {s t : Recording} {page after : Page} (put : Puts page (first_text s.bench.scans (moment_of s).motors) after)
     (past : moment_of t ≡ past_end file (moment_of s)) (few : length (moment_of s).motors ≤ 32) where
-  ends : Through lines file (moment_of s) (first_text s.bench.scans (moment_of s).motors) (past_end file (moment_of s)) → s.at ≤ length file → Advance recorded file s page t after
+  ends : Through dump_lines file (moment_of s) (first_text s.bench.scans (moment_of s).motors) (past_end file (moment_of s)) → s.at ≤ length file → Advance dump_walk file s page t after
   ends through l =
       record {
         piece = first_text s.bench.scans (moment_of s).motors;
@@ -72,17 +72,17 @@ module _ {file : List ℕ} {s t : Recording} {page after : Page} (put : Puts pag
         further = omega (arith, ap (λ (p : Moment). p.at) past);
       }
 
-  pub at_end : s.at ≤ length file → next_at file s.at ≡ None → Advance recorded file s page t after
+  pub at_end : s.at ≤ length file → next_at file s.at ≡ None → Advance dump_walk file s page t after
   at_end l found = ends (ended none l found) l
 
-  pub stops : {q : Request} {next : ℕ} → next_at file s.at ≡ Some (q, next) → (refusal_for (view_of s.bench) q ≡ 0 → ⊥) → Advance recorded file s page t after
+  pub stops : {q : Request} {next : ℕ} → next_at file s.at ≡ Some (q, next) → (refusal_for (view_of s.bench) q ≡ 0 → ⊥) → Advance dump_walk file s page t after
   stops {q} {next} found h =
       let line = taken file s.at q next found in
       ends (refused none found (λ e. h (sym (same_refusal s.bench s.at s.time q) ∙ e))) (omega (arith, line.further, line.within))
 
 -- a line that is accepted and is no scan
-pub goes_on : {file : List ℕ} {s : Recording} {page : Page} {q : Request} {next : ℕ} (b : Bench) → next_at file s.at ≡ Some (q, next) → NoScan recorded file s → refusal_for (view_of s.bench) q ≡ 0
-    → view_of b ≡ state_after (view_of s.bench) q → Advance recorded file s page (record { bench = b; at = next; time = s.time }) page
+pub goes_on : {file : List ℕ} {s : Recording} {page : Page} {q : Request} {next : ℕ} (b : Bench) → next_at file s.at ≡ Some (q, next) → NoScan dump_walk file s → refusal_for (view_of s.bench) q ≡ 0
+    → view_of b ≡ state_after (view_of s.bench) q → Advance dump_walk file s page (record { bench = b; at = next; time = s.time }) page
 goes_on {file} {s} {q = q} {next} b found n h e =
     let c = quiet file s q next found h n in
     let m : moment_after next (moment_of s) q ≡ bench_at next b s.time =
@@ -99,7 +99,7 @@ goes_on {file} {s} {q = q} {next} b found n h e =
 
 inputs_through : {file words : List ℕ} {held at line : ℕ} {later : List ℕ} {here k : ℕ} (ms : List Motor) (scans time count : ℕ) → length ms ≡ held → min count most_motors ≡ held
     → InputLines file held words at line later here k
-    → Through lines file (record { at = at; motors = ms; words = take count words; scans = scans; time = time }) []
+    → Through dump_lines file (record { at = at; motors = ms; words = take count words; scans = scans; time = time }) []
     (record { at = here; motors = ms; words = take count later; scans = scans; time = time })
 unfolding refusal_for changed with_word with_words added clock_after
 inputs_through ms scans time count e f no_line = none
@@ -116,13 +116,13 @@ after_inputs s n =
       time = s.time;
     }
 
-pub inputs_ready : {file : List ℕ} (s : Recording) {line : ℕ} {i : Inputs} → ReadyBench s.bench → InputRun file (min s.bench.count most_motors) s.bench.words s.at line i
+pub inputs_ready : {file : List ℕ} (s : Recording) {line : ℕ} {i : Inputs} → ReadyBench s.bench → InputRun file (held_of s.bench) (record { words = s.bench.words; at = s.at; line = line }) i
     → ReadyBench (after_inputs s i).bench
 inputs_ready s ready inputs = record { records = ready.records; words = words_right inputs.lines ready.words }
 
 module _ {file : List ℕ} {s here : Recording} {page after : Page} {line : ℕ} where
-  pub and_inputs : Run recorded file s page here after → (i : Inputs) → length here.bench.motors ≡ 32
-      → InputRun file (min here.bench.count most_motors) here.bench.words here.at line i → Run recorded file s page (after_inputs here i) after
+  pub and_inputs : Run dump_walk file s page here after → (i : Inputs) → length here.bench.motors ≡ 32
+      → InputRun file (held_of here.bench) (record { words = here.bench.words; at = here.at; line = line }) i → Run dump_walk file s page (after_inputs here i) after
   and_inputs run i is inputs =
       run_quietly run (inputs_through (moment_of here).motors here.bench.scans here.time here.bench.count (used here.bench.count here.bench.motors is) refl inputs.lines) (onward inputs.lines)
 
@@ -195,7 +195,7 @@ module _ (s : Recording) (is : length s.bench.motors ≡ 32) (period : ℕ) {ms 
 
       pub one_scan : {file : List ℕ} {page after : Page} → next_at file s.at ≡ Some (S period, next)
           → Puts page (scan_text s.bench.scans (capped (s.time + period)) (moment_of s).motors (take s.bench.count ms)) after
-          → Advance recorded file s page (after_scan s ms period next) after
+          → Advance dump_walk file s page (after_scan s ms period next) after
       one_scan {file} found put =
           record {
             piece = scan_text s.bench.scans (capped (s.time + period)) (moment_of s).motors (take s.bench.count ms);

@@ -25,7 +25,7 @@ use Rattle.vcd.specs.Text.{samples_text}
 use Rattle.dump.specs.Dump.{signals_of, time_after, sample_of, samples_from, is_scan, motors_before_scans}
 use Rattle.course.specs.Through.{Through}
 use Rattle.course.specs.Through.Through.{none, accepted, refused, ended}
-use Rattle.dump.specs.Advance.{Moment, moment, state_of, past_end, clock_after, moment_after, first_text, scan_text, added, lines}
+use Rattle.dump.specs.Advance.{Moment, moment, state_of, past_end, clock_after, moment_after, first_text, scan_text, added, dump_lines}
 
 -- a request is accepted or refused
 pub by_refusal : (t : State) (r : Request) {P : Type 0} → (refusal_for t r ≡ 0 → P) → ((refusal_for t r ≡ 0 → ⊥) → P) → P
@@ -203,7 +203,7 @@ nothing_left file p piece = sym (ap (λ (l : List ℕ). piece ++ l) (rest_past f
 
 module _ {file : List ℕ} {from : Moment} where
   module _ (early : Early from) where
-    pub through_early : {piece : List ℕ} {p : Moment} → Through lines file from piece p → Early p
+    pub through_early : {piece : List ℕ} {p : Moment} → Through dump_lines file from piece p → Early p
     through_early none = early
     through_early (accepted {p = p} {r} {next} c f h) =
         let s = taken file p.at r next f in
@@ -213,7 +213,7 @@ module _ {file : List ℕ} {from : Moment} where
         omega (arith, through_early c, s.further, s.within)
     through_early (ended c l f) = omega (arith, through_early c, l)
 
-    pub through_rest : {piece : List ℕ} {p : Moment} → length file ≤ 65536 → Through lines file from piece p → rest_from file from ≡ piece ++ rest_from file p
+    pub through_rest : {piece : List ℕ} {p : Moment} → length file ≤ 65536 → Through dump_lines file from piece p → rest_from file from ≡ piece ++ rest_from file p
     through_rest few none = refl
     through_rest few (accepted {piece} {p} {r} {next} c f h) =
         let s = taken file p.at r next f in

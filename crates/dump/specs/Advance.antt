@@ -65,8 +65,8 @@ added p time (S period) = scan_text p.scans time p.motors (changed (state_of p) 
 added p time Refused = []
 
 -- A refused line is the last, and puts what the end puts.
-abbrev pub lines : Lines Moment
-lines =
+abbrev pub dump_lines : Lines Moment
+dump_lines =
     record {
       at = λ p. p.at;
       refusal = λ p r. refusal_for (state_of p) r;
@@ -88,11 +88,11 @@ pub record Begins (file : List ℕ) (r : Recording) : Type 0 where
   pub moment_is : moment_of r ≡ moment r.at empty_state 0
   pub claim : DumpClaim file
 
-abbrev pub recorded : Walk Recording
-recorded =
+abbrev pub dump_walk : Walk Recording
+dump_walk =
     record {
       Place = Moment;
-      lines = lines;
+      lines = dump_lines;
       place_of = moment_of;
       begins = Begins;
       text = dump_of;

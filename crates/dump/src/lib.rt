@@ -8,7 +8,7 @@ mod signals;
 use interpreter::Bench;
 
 // A bench at a place of a file, and all periods up to there, added up. Its totals are not kept, and mean nothing. A place past the file's
-// end: all is put; as an Option it would be asked for at each line.
+// end says that all is put, and is no Option, as in print's `Sitting`.
 #[derive(Clone, Copy)]
 pub struct Recording {
     pub bench: Bench,

@@ -1,8 +1,8 @@
 // A file taken line by line.
 ghost use Rattle.std.specs.Prelude.{◌≡◌, ◌≤◌, length, refl};
 ghost use Rattle.report.specs.Puts.{Puts};
-ghost use Rattle.dump.specs.Advance.{most_put, first_text, moment_of, past_end, recorded};
-ghost use Rattle.dump.specs.Laws.{recorded_laws};
+ghost use Rattle.dump.specs.Advance.{most_put, first_text, moment_of, past_end, dump_walk};
+ghost use Rattle.dump.specs.Laws.{dump_laws};
 
 use crate::Recording;
 use crate::signals::Outputs;
@@ -12,7 +12,7 @@ use report::Page;
 use sheet::next_request;
 
 impl Course for Recording {
-    ghost walk = { recorded };
+    ghost walk = { dump_walk };
 
     ghost MOST_PUT = { most_put };
 
@@ -37,7 +37,7 @@ impl Course for Recording {
         self.at
     }
 
-    // A recording of which a scan would be refused for more than its period is left as it is.
+    // A recording of which a scan would be refused for more than its period is left as it is, as print's `scans` leaves a sitting.
     fn scans(&mut self, file: &[u8], page: &mut Page) {
         if self.bench.accept_scan(1).is_ok() {
             self.scan_lines(file, page);
@@ -57,11 +57,12 @@ impl Course for Recording {
 
     ghost most_put = { refl };
 
-    ghost laws = { recorded_laws };
+    ghost laws = { dump_laws };
 }
 
 impl Recording {
-    // The end of the dump: where no scan ran, header and #0 are put.
+    // The end of the dump: where no scan ran, header and #0 are put. `few` is for the proof of `line`, which is told no length of an array
+    // behind a reference.
     #[tactic(auto, using(crate::proofs::SignalLaws::first_is, crate::proofs::AdvanceLaws::few))]
     fn finish(&mut self, file: &[u8], page: &mut Page)
         ensures put { Puts page.old (first_text self.old.bench.scans (moment_of self.old).motors) page.new }

@@ -5,7 +5,7 @@ ghost use Rattle.rules.specs.Steps.{step};
 ghost use Rattle.sheet.specs.declared.Request.TheVariants.{Scan as S};
 ghost use Rattle.interpreter.specs.State.{refusal_for, view_of};
 ghost use Rattle.course.specs.Walk.{Scans};
-ghost use Rattle.dump.specs.Advance.{recorded};
+ghost use Rattle.dump.specs.Advance.{dump_walk};
 
 use crate::Recording;
 use crate::signals::Outputs;
@@ -15,7 +15,8 @@ use report::Page;
 use rules::Motor;
 use status::switches::read;
 
-// A motor through a scan that is accepted. At rest its status alone is reckoned, and written.
+// A motor through a scan that is accepted. At rest its status alone is reckoned, and written. It is the body of print's loop, which counts
+// the totals too: they are none of a dump's.
 #[tactic(auto, using(interpreter::proofs::ScanLaws::rested, rules::proofs::Tables::one_accepted), unfolding(rules::specs::Record::with_status))]
 fn step(m: &mut Motor, word: u32, period: u32)
     requires { one_refusal m.old word period ≡ 0 }
@@ -30,10 +31,10 @@ fn step(m: &mut Motor, word: u32, period: u32)
     }
 }
 
-// A scan of the motors in use, which is accepted: each is scanned where it stands, since a bench is dear to copy. It is not `table::scan`, which
-// tests their range again, and takes a motor at rest through all steps.
+// A scan of the motors in use, which is accepted: each is scanned where it stands, since a bench is dear to copy. It is not `table::scan`, for
+// speed: that tests their range again, and takes a motor at rest through all steps.
 #[tactic(auto, using(crate::proofs::AdvanceLaws::word_there, rules::proofs::Tables::none_stepped, crate::proofs::AdvanceLaws::turn_due, crate::proofs::AdvanceLaws::one_stepped, crate::proofs::AdvanceLaws::all_stepped))]
-fn scan(motors: &mut [Motor], words: &[u32], period: u32)
+fn step_all(motors: &mut [Motor], words: &[u32], period: u32)
     requires { table_refusal motors.old words.now period ≡ 0 }
     ensures { motors.new ≡ table_after motors.old words.now period }
 {
@@ -49,13 +50,12 @@ impl Recording {
     #[tactic(auto, unfolding(rules::specs::Refusals::most_motors))]
     pub(crate) fn scan_lines(&mut self, file: &[u8], page: &mut Page)
         requires { refusal_for (view_of self.old.bench) (S 1) ≡ 0 }
-        ensures { Scans recorded file.now self.old page.old self.new page.new }
+        ensures { Scans dump_walk file.now self.old page.old self.new page.new }
     {
         let held = self.bench.held();
-        let words = self.bench.words;
         // the lines' numbers are of no use to a dump
         let mut inputs = Inputs {
-            words,
+            words: self.bench.words,
             at: self.at,
             line: 0,
         };
@@ -65,7 +65,7 @@ impl Recording {
             let Some((period, next)) = next_scan(file, inputs.at) else {
                 break;
             };
-            scan(
+            step_all(
                 &mut self.bench.motors[..held],
                 &inputs.words[..held],
                 period,
@@ -77,8 +77,7 @@ impl Recording {
             inputs.at = next;
             before = after;
         }
-        let words = inputs.words;
-        self.bench.words = words;
+        self.bench.words = inputs.words;
         self.at = inputs.at;
     }
 }

@@ -22,7 +22,8 @@ fn code(signal: usize) -> u8
     33 + signal as u8
 }
 
-// Whether a motor's signals are not what they were, by the states of its output.
+// Whether a motor's signals are not what they were, by the states of its output: `before != after` would tell states above 2 apart, which
+// are no output, and a record that is lent may have any.
 #[tactic(auto, unfolding(crate::specs::Signals::motor_differs, vcd::specs::Text::differs))]
 fn differ(before: u32, after: u32) -> bool
     ensures { result ≡ motor_differs before after }
@@ -50,7 +51,7 @@ fn put_change(page: &mut Page, code: u8, before: bool, after: bool)
 }
 
 // The states of the motors' outputs, as many as are in use, in fixed memory, since there is no heap here. The signals go by them, since
-// arrays of records are dear to hand on.
+// arrays of records are dear to hand on. They are numbers and no `Option<Wire>`, as in the records: one that is lent may have any.
 #[derive(Drop)]
 pub(crate) struct Outputs {
     states: [u32; MOST_MOTORS],
@@ -73,14 +74,13 @@ impl Outputs {
     {
         let held = motors.len();
         let mut states = [0; MOST_MOTORS];
-        // by index: collecting takes a heap
-        for i in 0..held {
-            states[i] = motors[i].output.state;
+        for (i, m) in motors.iter().enumerate() {
+            states[i] = m.output.state;
         }
         Outputs { states, held }
     }
 
-    // A bench by value, since a proof is told the lengths of its arrays so.
+    // It takes the bench by value: then a proof is told the lengths of its arrays, which it is not behind a reference.
     #[tactic(auto, using(interpreter::proofs::ActLaws::take_used, crate::proofs::AdvanceLaws::few), unfolding(rules::specs::Refusals::most_motors))]
     pub(crate) fn of_bench(bench: Bench) -> Outputs
         ensures shown { result ≡ output_states (take bench.count bench.motors) }
@@ -90,6 +90,7 @@ impl Outputs {
         Outputs::of(&bench.motors[..bench.held()])
     }
 
+    // `few` is the invariant, of the view: calls of `code` need it.
     fn states(&self) -> &[u32]
         ensures same { result.now ≡ self.now }
         ensures few { length result.now ≤ 32 }

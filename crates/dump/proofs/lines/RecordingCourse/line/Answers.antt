@@ -1,5 +1,5 @@
-use Rattle.std.proofs.Common.{sym, ◌∙◌, arith}
-use Rattle.rules.proofs.Numbers.{number_positive}
+use Rattle.std.proofs.Common.{sym, ◌∙◌}
+use Rattle.interpreter.proofs.ActLaws.{not_zero}
 use Rattle.dump.proofs.AdvanceLaws.{at_end, goes_on, stops}
 use Rattle.dump.proofs.lines.RecordingCourse.line.Goals as goal
 
@@ -9,8 +9,7 @@ returns-in-Ok c = goes_on c.act.new.self (sym c.next_request.ensures ∙ c.in-So
 pub returns-in-Err : goal.returns-in-Err
 returns-in-Err c =
     let f = rw c.in-Err.ensures.unchanged at c.finish.ensures in
-    stops f.put f.past f.few (sym c.next_request.ensures ∙ c.in-Some.is)
-    (λ z. absurd (omega (arith, c.in-Err.ensures.refusal, number_positive c.in-Err.field-0, z)))
+    stops f.put f.past f.few (sym c.next_request.ensures ∙ c.in-Some.is) (not_zero _ c.in-Err.ensures.refusal)
 
 pub returns-in-None : goal.returns-in-None
 returns-in-None c =
