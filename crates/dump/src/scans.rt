@@ -27,7 +27,7 @@ fn step(m: &mut Motor, word: u32, period: u32)
     if motor::is_resting(settings, v, m.output, word) {
         m.status = motor::rest(settings, v, word, read(settings, word));
     } else {
-        *m = motor::scan(*m, word, period).unwrap_or(*m);
+        *m = motor::scan(*m, word, period).unwrap();
     }
 }
 
