@@ -10,7 +10,7 @@ use std::alloc::Global;
 use std::io;
 use std::io::{Read, Write};
 
-// The dump of what stands in a reader. It is one call, and stands here because its clause names this program's own print.
+// The dump of what stands in a reader. It is one call, and stands here because its clause names this program's own dump.
 fn run<R: Read + Drop, W: Write>(alloc: Global, from: R, to: &mut W) -> io::Result<()>
     ensures { OnOk result (IfSome (R.remaining from) (λ file. Appends (W.contents to.old) (W.contents to.new) (dump_of file))) }
 {
