@@ -32,8 +32,9 @@ fn row(scan: u32, number: u32, m: Motor) -> Row
 
 impl Sitting {
     // The I and S lines from here on, up to the first that is refused or of another kind, and as long as there is room. Each motor is
-    // printed as it is scanned. What a scan writes is in locals meanwhile, and one function does it: on the bench's own arrays a run takes 8
-    // in 100 more instructions, and with a function for one motor's scan, which is lent the motor and its totals, 1.4 in 100.
+    // printed as it is scanned. What a scan writes is in locals meanwhile, and the loops stand in one function: on the bench's own arrays a
+    // run of scans takes 12 in 100 more instructions, and with a function for one motor's scan, which is lent the motor and its totals, 2 in
+    // 100.
     #[tactic(auto, unfolding(rules::specs::Refusals::most_motors))]
     pub(crate) fn scan_lines(&mut self, file: &[u8], page: &mut Page)
         requires { refusal_for (view_of self.old.bench) (S 1) ≡ 0 }
