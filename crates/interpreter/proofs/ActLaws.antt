@@ -31,7 +31,7 @@ pub refused : (t : State) (r : Request) → (refusal_for t r ≡ 0 → ⊥) → 
 unfolding state_after when◌then◌else◌
 refused t r h = grind (arith, nat_tests)
 
--- what a refusal comes from is refused
+-- the number of a refusal is not that of an accepted line
 pub not_zero : {n : ℕ} (refusal : Refusal) → number_of refusal ≡ n → n ≡ 0 → ⊥
 not_zero refusal e z = absurd (omega (arith, e, z, number_positive refusal))
 

@@ -65,6 +65,7 @@ pub unready : (t : State) (period : ℕ) → (refusal_for t (S 1) ≡ 0 → ⊥)
 unfolding refusal_for scan_refusal table_refusal period_ok when◌then◌else◌
 unready t period n h = grind (arith, nat_tests)
 
+-- told by whether the answer for that period is Ok
 pub refused_all : (t : State) (r : Result Unit Refusal) {b : Bool} → code_of r ≡ refusal_for t (S 1) → b ≡ is_ok r → b ≡ false
     → (period : ℕ) → refusal_for t (S period) ≡ 0 → ⊥
 refused_all t r code e f period = unready t period (λ z. false≢true (sym f ∙ e ∙ is_ok-from_zero r (code ∙ z)))
@@ -74,6 +75,6 @@ pub untimely : (t : State) (period : ℕ) → period_ok period ≡ false → ref
 unfolding refusal_for scan_refusal table_refusal when◌then◌else◌
 untimely t period e h = grind (arith, nat_tests)
 
--- and so none is where no S line has such a period
+-- and so none is by a line that `next_scan` passes over
 pub no_scan : (file : List ℕ) (at : ℕ) → FoundScan file at None → (t : State) (period next : ℕ) → next_at file at ≡ Some (S period, next) → refusal_for t (S period) ≡ 0 → ⊥
 no_scan file at missed t period next found = untimely t period (missed period next found)
