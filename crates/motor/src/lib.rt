@@ -1,4 +1,4 @@
-// One motor's record taken through one scan, by value.
+// One motor's record taken through one scan, by value: the record, its word and the period side by side, as the paper names the step.
 #![tactic(auto)]
 
 ghost use Rattle.std.specs.Prelude.{◌≡◌};

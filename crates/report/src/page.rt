@@ -4,9 +4,10 @@ ghost use Rattle.std.specs.Prelude.{◌≡◌, ◌-◌, [], ◌∷◌, take, len
 ghost use Rattle.report.specs.Print.{decimal, line_of, totals_row_of, refusal_of};
 ghost use Rattle.report.specs.Puts.{Puts};
 
-use crate::{Row, TotalsRow};
+use crate::TotalsRow;
 use sheet::{COMMA, LF};
 
+// The buffer is lent, since there is no heap here. A page may begin at any place, also past the buffer's end, and so has no invariant.
 #[derive(Drop)]
 pub struct Page<'a> {
     pub(crate) bytes: &'a mut [u8],
@@ -82,10 +83,10 @@ impl<'a> Page<'a> {
         ensures { Puts self.old (decimal n) self.new }
     {
         if n < 10 {
-            return self.byte(48 + n as u8);
+            return self.byte(b'0' + n as u8);
         }
         self.digits(n / 10);
-        self.byte(48 + (n % 10) as u8)
+        self.byte(b'0' + (n % 10) as u8)
     }
 
     // A line of a letter and numbers, each after its comma.
@@ -119,7 +120,7 @@ impl<'a> Page<'a> {
         self.line(b'T', &numbers)
     }
 
-    // E,line,refusal: any number, as what is printed is no matter of who refuses
+    // E,line,refusal: any number, where `rules::Refusal` would take fewer
     #[tactic(auto, unfolding(crate::specs::Print::refusal_of))]
     pub fn refusal(&mut self, line: u32, refusal: u32)
         ensures { Puts self.old (refusal_of line refusal) self.new }

@@ -1,4 +1,4 @@
-// A row stored where there is room for it: most of what is printed are rows, and one test of the place for the whole row is
+// A row stored where there is room for it: most of what is printed is rows, and one test of the place for the whole row is
 // cheaper than one for each byte.
 ghost use Rattle.std.specs.Prelude.{◌+◌, ◌<◌, ◌≡◌, true, [], ◌∷◌};
 ghost use Rattle.report.specs.Puts.{Puts};
@@ -131,7 +131,7 @@ impl<'a> Page<'a> {
         ensures puts { Puts self.old ((48 + n) ∷ []) self.new }
         ensures room { Takes self.old 1 self.new }
     {
-        self.store(48 + n as u8)
+        self.store(b'0' + n as u8)
     }
 
     fn store(&mut self, b: u8)

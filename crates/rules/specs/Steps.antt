@@ -4,6 +4,7 @@
 -- book of commands shares them. It has no sums and no output, so it hands step 4 its own answer to whether the time is up.
 -- The switches are read once (`reading`); steps 2, 4 and 5 are handed what they read.
 use Rattle.std.specs.Prelude.{ℕ, ◌+◌, Bool, true, false, not, ◌&&◌, ◌||◌, List, [], ◌∷◌, eqb, leb, ltb}
+use Rattle.std.specs.List.{list_any}
 use Rattle.words.specs.Word.{when◌then◌else◌, with_bit, without_bit, without_bits}
 use Rattle.rules.specs.declared.Settings.{Settings}
 use Rattle.rules.specs.declared.Status.{Status}
@@ -176,10 +177,6 @@ modes_risen v word =
 unfoldable pub mode_asked : Status → ℕ → ℕ
 mode_asked v word = when bit_risen v word 9 then repair else when bit_risen v word 10 then reserve else work
 
-unfoldable pub any_of : (ℕ → Bool) → List ℕ → Bool
-any_of test [] = false
-any_of test (c ∷ cs) = test c || any_of test cs
-
 -- Repair and Reserve also need position Off. Reserve needs flag 1 = 0 or OPS_1 bit 13, and flag 0 = 0 or bit 14.
 unfoldable pub reserve_allowed : Settings → Status → Bool
 reserve_allowed s v = (not (flag v 1) || ops₁ s 13) && (not (flag v 0) || ops₁ s 14)
@@ -189,7 +186,7 @@ mode_allowed s v mode = (eqb mode work || eqb v.position off) && (not (eqb mode 
 
 unfoldable pub mode_changes : Settings → Status → ℕ → Bool
 mode_changes s v word =
-    not (local_mode word) && eqb (modes_risen v word) 1 && idle v && not (any_of (command_risen v word) commands)
+    not (local_mode word) && eqb (modes_risen v word) 1 && idle v && not (list_any (command_risen v word) commands)
     && mode_allowed s v (mode_asked v word)
 
 unfoldable pub status6 : Settings → Status → ℕ → Status

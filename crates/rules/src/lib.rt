@@ -43,7 +43,7 @@ pub struct Motor {
     pub output: Output,
 }
 
-// What the switches read: a position, or none for one of two causes.
+// What the switches read: a position, or none for one of two causes, which step 5 tells apart: hence no Option.
 #[derive(Clone, Copy, Debug, PartialEq, Eq)]
 pub enum Reading {
     Off,
@@ -52,45 +52,33 @@ pub enum Reading {
     BothClosed,
 }
 
-// What a scan, or a line of a file, is refused for.
+// What a scan, or a line of a file, is refused for, each with the number that is printed for it.
 #[derive(Clone, Copy, Debug, PartialEq, Eq)]
 pub enum Refusal {
     // records and words differ in count or are too many, or a file is too long
-    Size,
-    Period,
-    Word,
-    Setting,
-    Line,
+    Size = 1,
+    Period = 2,
+    Word = 3,
+    Setting = 4,
+    Line = 5,
     // a record out of range
-    Record,
+    Record = 6,
     // a table without room for one more motor
-    Full,
+    Full = 7,
     // a motor after the first scan
-    Scanned,
+    Scanned = 8,
     // a number that is not the next
-    Number,
+    Number = 9,
     // a motor that is not there
-    Absent,
+    Absent = 10,
 }
 
-// The number that is printed for it.
 impl From<Refusal> for u32 {
     ghost from_gives = { λ refusal number. number ≡ number_of refusal };
 
     fn from(refusal: Refusal) -> u32
         ensures { result ≡ number_of refusal }
     {
-        match refusal {
-            Refusal::Size => 1,
-            Refusal::Period => 2,
-            Refusal::Word => 3,
-            Refusal::Setting => 4,
-            Refusal::Line => 5,
-            Refusal::Record => 6,
-            Refusal::Full => 7,
-            Refusal::Scanned => 8,
-            Refusal::Number => 9,
-            Refusal::Absent => 10,
-        }
+        refusal as u32
     }
 }

@@ -84,11 +84,7 @@ pub fn is_admitted(s: Settings, v: Status, word: u32, c: u32) -> bool
 pub fn is_candidate(s: Settings, v: Status, word: u32, c: u32) -> bool
     ensures { result ≡ candidate s v word c }
 {
-    // few have risen
-    if is_risen(v, word, c) {
-        return !is_acknowledging(s, v, word, c) & is_admitted(s, v, word, c);
-    }
-    false
+    is_risen(v, word, c) && !is_acknowledging(s, v, word, c) && is_admitted(s, v, word, c)
 }
 
 // The strongest candidate.
@@ -98,7 +94,8 @@ pub fn choice(s: Settings, v: Status, word: u32) -> Option<u32>
     (1..8).find(|&c| is_candidate(s, v, word, c))
 }
 
-// Whether the chosen command is issued at a position, with none under way.
+// Whether the chosen command is issued at a position, with none under way. This and the next test are of any number, 0 for no command too, as
+// the rules' are.
 pub fn is_starting(new: u32, position: u32) -> bool
     ensures { result ≡ starts new position }
 {

@@ -7,8 +7,8 @@ ghost use Rattle.rules.specs.Record.{direction, is_on, is_off, is_mu, is_ko, inp
 use rules::Status;
 use words::has_risen;
 
-// Direction, 1 off or 2 on, and input bit; no word has a bit 32. Two tables by number, as the block has them: whoever looks one up mostly
-// asks for nothing of the other.
+// Direction, 1 off or 2 on, and input bit, by number, in constant arrays as the paper asks. No command has direction 0 and bit 32, which is
+// not in any word: with these the tests of a command hold for any number, where an Option would be asked for in each.
 const DIRECTIONS: [u32; 8] = [0, 1, 1, 2, 1, 2, 1, 2];
 
 const INPUT_BITS: [u32; 8] = [32, 0, 8, 7, 3, 2, 13, 12];

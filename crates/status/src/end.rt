@@ -7,7 +7,7 @@ ghost use Rattle.rules.specs.Record.{overdue_flag};
 ghost use Rattle.rules.specs.Steps.{confirms, confirmed, overdue, ended, end4, flags4, status4};
 
 use crate::command::direction_of;
-use crate::switches::{is_sure, position_read};
+use crate::switches::position_read;
 use rules::{Reading, Status};
 use words::{choose, with_bit};
 
@@ -15,7 +15,7 @@ use words::{choose, with_bit};
 pub fn is_confirming(r: Reading, c: u32) -> bool
     ensures { result ≡ confirms r c }
 {
-    is_sure(r) & (position_read(r) == direction_of(c))
+    position_read(r) == Some(direction_of(c))
 }
 
 pub fn is_confirmed(v: Status, r: Reading) -> bool

@@ -11,7 +11,7 @@ use words::{choose, has, masked_out, with_bit, without_bit};
 // Flags 5 and 6.
 pub const OFF_FLAGS: u32 = 96;
 
-#[tactic(auto, using(crate::proofs::Masks::off_flags), unfolding(rules::specs::Steps::flags9))]
+#[tactic(auto, using(crate::proofs::Masks::off_flags), unfolding(words::specs::Opened::choices, rules::specs::Steps::flags9))]
 pub fn issue_flags(c: u32, flags: u32) -> u32
     ensures { result ≡ flags9 c flags }
 {
@@ -20,9 +20,12 @@ pub fn issue_flags(c: u32, flags: u32) -> u32
         masked_out(flags, OFF_FLAGS),
         without_bit(flags, 4),
     );
-    let sma = choose(c == 1, with_bit(f, 6), f);
-    let lz_off = choose(c == 2, with_bit(f, 5), sma);
-    choose(c == 3, with_bit(f, 4), lz_off)
+    match c {
+        1 => with_bit(f, 6),
+        2 => with_bit(f, 5),
+        3 => with_bit(f, 4),
+        _ => f,
+    }
 }
 
 pub fn turns_to_work(s: Settings, v: Status, c: u32) -> bool

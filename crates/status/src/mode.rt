@@ -2,8 +2,9 @@
 #![tactic(auto, unfolding(rules::specs::Opened::opened))]
 
 ghost use Rattle.std.specs.Prelude.{◌≡◌, eqb};
+ghost use Rattle.std.specs.List.{list_any};
 ghost use Rattle.rules.specs.Record.{commands, command_risen};
-ghost use Rattle.rules.specs.Steps.{modes_risen, mode_asked, any_of, reserve_allowed, mode_allowed, mode_changes, status6};
+ghost use Rattle.rules.specs.Steps.{modes_risen, mode_asked, reserve_allowed, mode_allowed, mode_changes, status6};
 
 use crate::command::is_risen;
 use rules::{Settings, Status};
@@ -32,7 +33,7 @@ pub fn asked_mode(v: Status, word: u32) -> u32
 
 // Whether the bit of any switching command has risen.
 pub fn is_any_risen(v: Status, word: u32) -> bool
-    ensures { result ≡ any_of (command_risen v word) commands }
+    ensures { result ≡ list_any (command_risen v word) commands }
 {
     (1..8).any(|c| is_risen(v, word, c))
 }

@@ -2,6 +2,7 @@
 #![tactic(auto, unfolding(rules::specs::Opened::opened))]
 
 ghost use Rattle.std.specs.Prelude.{◌≡◌};
+ghost use Rattle.std.specs.Bool.{then_some};
 ghost use Rattle.rules.specs.Steps.{status1, read_on_switch, pair_read, read_switches, reading, is_sure, position_read, both_closed, flags2, pretended, status2};
 
 use rules::{Reading, Settings, Status};
@@ -37,16 +38,11 @@ pub fn read_on_switch(word: u32) -> Reading
 pub fn read_pair(on: bool, off: bool) -> Reading
     ensures { result ≡ pair_read on off }
 {
-    if on {
-        if off {
-            Reading::BothClosed
-        } else {
-            Reading::On
-        }
-    } else if off {
-        Reading::Off
-    } else {
-        Reading::BothOpen
+    match (on, off) {
+        (true, false) => Reading::On,
+        (false, true) => Reading::Off,
+        (false, false) => Reading::BothOpen,
+        (true, true) => Reading::BothClosed,
     }
 }
 
@@ -67,22 +63,21 @@ pub fn read(s: Settings, word: u32) -> Reading
     }
 }
 
-// The position read, by the number that a record has for it: 1 Off, 2 On, 0 if it is unsure.
-pub fn position_read(r: Reading) -> u32
-    ensures { result ≡ position_read r }
+// The position read, if it is sure, by the number that a record has for it: 1 Off, 2 On.
+pub fn position_read(r: Reading) -> Option<u32>
+    ensures { result ≡ then_some (is_sure r) (position_read r) }
 {
     match r {
-        Reading::Off => 1,
-        Reading::On => 2,
-        Reading::BothOpen => 0,
-        Reading::BothClosed => 0,
+        Reading::Off => Some(1),
+        Reading::On => Some(2),
+        Reading::BothOpen | Reading::BothClosed => None,
     }
 }
 
 pub fn is_sure(r: Reading) -> bool
     ensures { result ≡ is_sure r }
 {
-    position_read(r) != 0
+    position_read(r).is_some()
 }
 
 pub fn both_closed(r: Reading) -> bool
@@ -95,10 +90,9 @@ pub fn both_closed(r: Reading) -> bool
 pub fn change_flags(v: Status, r: Reading) -> u32
     ensures { result ≡ flags2 v r }
 {
-    let seen = position_read(r);
     let idle = v.command == 0;
-    let to_on = idle & (v.sure == 1) & (seen == 2);
-    let to_off = idle & (v.sure == 2) & (seen == 1);
+    let to_on = idle & (v.sure == 1) & (r == Reading::On);
+    let to_off = idle & (v.sure == 2) & (r == Reading::Off);
     let off = choose(to_off, with_bit(v.flags, 3), v.flags);
     choose(to_on, with_bit(v.flags, 2), off)
 }
@@ -115,11 +109,10 @@ pub fn pretend(s: Settings, sure: u32) -> u32
 pub fn switches(s: Settings, v: Status, r: Reading) -> Status
     ensures { result ≡ status2 s v r }
 {
-    let sure = is_sure(r);
     let seen = position_read(r);
     Status {
-        sure: choose(sure, seen, v.sure),
-        position: choose(sure, seen, pretend(s, v.sure)),
+        sure: seen.unwrap_or(v.sure),
+        position: seen.unwrap_or(pretend(s, v.sure)),
         flags: change_flags(v, r),
         ..v
     }

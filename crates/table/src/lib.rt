@@ -1,13 +1,13 @@
 // Scans over lent records, and one over an array by value.
-// Records, words and period go side by side, and so do an array, its count and its words: callers keep them apart, so that a struct would
-// be made at each call only to be taken apart in it.
+// Records, words and period go side by side, and so do an array, its count and its words: the paper names these forms, and a caller that lends
+// its motors keeps their words.
 #![tactic(auto)]
 
-ghost use Rattle.std.specs.Prelude.{◌≡◌, ◌++◌, ◌≤◌, take, drop};
+ghost use Rattle.std.specs.Prelude.{◌≡◌};
 ghost use Rattle.std.specs.List.{list_all};
 ghost use Rattle.std.specs.Result.{result_unwrap_or};
 ghost use Rattle.rules.specs.Numbers.{code_of};
-ghost use Rattle.rules.specs.Refusals.{most_motors, misfit, in_range, word_ok, one_refusal, one_after, table_refusal, step_all, table_after, part_refusal, part_after};
+ghost use Rattle.rules.specs.Refusals.{misfit, in_range, word_ok, one_refusal, one_after, table_refusal, step_all, table_after, part_refusal, part_after};
 
 use rules::{Motor, Refusal};
 
@@ -24,10 +24,10 @@ pub fn scan_one(motor: &mut Motor, word: u32, period: u32) -> Result<(), Refusal
 
 // Whether so many records and so many words make no table.
 #[tactic(auto, unfolding(rules::specs::Refusals::misfit, rules::specs::Refusals::most_motors))]
-fn is_misfit(records: usize, words: usize) -> bool
-    ensures { result ≡ misfit records words }
+fn is_misfit(motors: usize, words: usize) -> bool
+    ensures { result ≡ misfit motors words }
 {
-    (records != words) | (MOST_MOTORS < records)
+    (motors != words) | (MOST_MOTORS < motors)
 }
 
 fn are_in_range(table: &[Motor]) -> bool
@@ -81,7 +81,7 @@ pub fn scan(table: &mut [Motor], words: &[u32], period: u32) -> Result<(), Refus
     Ok(())
 }
 
-// The first `count` records and words of two arrays, for callers that have their motors so, in fixed memory.
+// Whether a scan of the first `count` records of an array is accepted, each with its word, or what it is refused for.
 #[tactic(auto, unfolding(words::specs::Opened::choices, rules::specs::Refusals::most_motors, rules::specs::Refusals::part_refusal))]
 pub fn accept_array(
     records: [Motor; MOST_MOTORS],
@@ -91,15 +91,14 @@ pub fn accept_array(
 ) -> Result<(), Refusal>
     ensures { code_of result ≡ part_refusal records count words period }
 {
-    if count <= MOST_MOTORS {
-        accept(&records[..count], &words[..count], period)
-    } else {
-        Err(Refusal::Size)
+    if MOST_MOTORS < count {
+        return Err(Refusal::Size);
     }
+    accept(&records[..count], &words[..count], period)
 }
 
-// The first `count` records of an array through a scan of a table, for callers that lend nothing: more than an array has are refused.
-#[tactic(auto, unfolding(words::specs::Opened::choices, rules::specs::Refusals::most_motors, rules::specs::Refusals::part_refusal, rules::specs::Refusals::part_after), using(rules::proofs::Tables::part_refused))]
+// The first `count` records of an array through a scan of a table, for callers that lend nothing; a count of more than there are is refused.
+#[tactic(auto, unfolding(words::specs::Opened::choices, rules::specs::Refusals::most_motors, rules::specs::Refusals::part_refusal, rules::specs::Refusals::part_after), using(rules::proofs::Tables::part_refused, rules::proofs::Tables::table_accepted))]
 pub fn scan_array(
     mut records: [Motor; MOST_MOTORS],
     count: usize,
@@ -109,9 +108,7 @@ pub fn scan_array(
     ensures code { code_of result ≡ part_refusal records count words period }
     ensures records { result_unwrap_or result records ≡ part_after records count words period }
 {
-    if MOST_MOTORS < count {
-        return Err(Refusal::Size);
-    }
-    scan(&mut records[..count], &words[..count], period)?;
+    accept_array(records, count, words, period)?;
+    step_all(&mut records[..count], &words[..count], period);
     Ok(records)
 }

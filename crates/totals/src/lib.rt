@@ -10,9 +10,8 @@ ghost use Rattle.totals.specs.Claim.{TotalsClaim};
 ghost use Rattle.totals.specs.Running.{capped, no_totals, counted_if, has_issued, on_after, best_after, totals_after};
 
 use rules::{Motor, Reading, Status};
-use status::switches::position_read;
 
-// What the T line of a motor has, but for the motor's number and whether a command is under way, which its record says.
+// What the T line of a motor has, as it has it, but for the motor's number and whether a command is under way, which its record says.
 #[derive(Clone, Copy, Debug, Default, PartialEq, Eq)]
 pub struct Totals {
     pub issued: u32,
@@ -56,23 +55,23 @@ fn has_issued(before: u32, v: Status) -> bool
 }
 
 // The time with a sure On reading, after a scan that reads r.
-#[tactic(auto, unfolding(words::specs::Opened::choices, crate::specs::Running::on_after))]
+#[tactic(auto, unfolding(rules::specs::Opened::opened, crate::specs::Running::on_after))]
 pub fn on_after(time: u32, r: Reading, period: u32) -> u32
     ensures { result ≡ on_after time r period }
 {
-    if position_read(r) == 2 {
+    if r == Reading::On {
         plus(time, period)
     } else {
         time
     }
 }
 
-// The best time after one more confirmation.
+// The best time after one more confirmation. As the T line prints it, it is 0 before the first.
 #[tactic(auto, unfolding(words::specs::Opened::choices, crate::specs::Running::best_after))]
-fn best_after(before: u32, best: u32, time: u32) -> u32
-    ensures { result ≡ best_after before best time }
+fn best_after(confirmed: u32, best: u32, time: u32) -> u32
+    ensures { result ≡ best_after confirmed best time }
 {
-    if before == 0 { time } else { best.min(time) }
+    if confirmed == 0 { time } else { best.min(time) }
 }
 
 // The totals after a scan that reads r: m is the record before it, v the status after it.

@@ -17,7 +17,7 @@ pub enum Wire {
     Off,
 }
 
-// The header before its wires, and after them: each its own text, in one line.
+// The header before its wires, and after them: each its own text.
 #[tactic(auto, unfolding(crate::specs::Opened::opened))]
 pub fn put_frame_start(page: &mut Page)
     ensures { Puts page.old frame_start page.new }
@@ -60,10 +60,7 @@ pub fn put_time(page: &mut Page, time: u32)
 fn digit(value: bool) -> u8
     ensures { result ≡ digit_of value }
 {
-    if value {
-        return b'1';
-    }
-    b'0'
+    b'0' + u8::from(value)
 }
 
 // A signal's value.

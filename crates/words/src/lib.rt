@@ -1,5 +1,5 @@
-// Single bits of 32-bit words, by shift and mask. Every function is defined for any index: a word has the bits 0 to 31
-// and no others.
+// Single bits of 32-bit words, by shift and mask, and a choice between two values. Every function is defined for any index: a word has the
+// bits 0 to 31 and no others.
 #![tactic(auto)]
 
 ghost use Rattle.std.specs.Prelude.{◌≡◌};
@@ -53,7 +53,7 @@ pub fn without_bit(w: u32, k: u32) -> u32
     if k < 32 { masked_out(w, 1 << k) } else { w }
 }
 
-// One of two: a if the test holds.
+// One of two: a if the test holds. For the steps: it compiles to no branch, and proves by its contract alone, as an `if` in them does not.
 #[tactic(auto, unfolding(crate::specs::Opened::choices))]
 pub fn choose<T: Copy>(test: bool, a: T, b: T) -> T
     ensures { result ≡ (when test then a else b) }
