@@ -1,22 +1,42 @@
 -- Laws of what is put into a page, and of storing where there is room. Assumes nothing.
 use Prim.Native.Nat.{ℕ, ◌+◌, ◌/◌, ◌%◌, ◌^◌, ◌<◌, ◌≤◌}
 use mathlib.Core.Path.{◌≡◌, refl}
-use mathlib.Core.List.{[], ◌∷◌, ◌++◌, append_assoc}
+use mathlib.Core.List.{List, [], ◌∷◌, ◌++◌, append_assoc}
 use native.Mathlib.Omega.{arith}
 use mathlib.Core.Bool.{true}
 use lib.Dec.{ltb}
+use lib.ListN.{length, drop, get_or, drop_of_length-le}
+use lib.Seq.{drop-cons}
+use native.Mathlib.Numerals.{add-one}
 use borrow.Author.Tests.{ltb-true, lt-ltb}
 use Rattle.words.proofs.Laws.{and_true}
 use Rattle.std.specs.Int.Bits.{bit_or}
 use Rattle.std.proofs.lemmas.Nat.{le_or_l, le_or_r}
-use Rattle.sheet.specs.Split.{LF}
+use Rattle.sheet.specs.Split.{LF, comma}
 use Rattle.report.specs.Print.{decimal, after_comma, after_commas, line_of, letter_r, row_of}
 use Rattle.report.specs.Puts.{Puts}
 use Rattle.report.specs.Store.{Takes, pair_of, states_of, short_states}
 use Rattle.report.specs.declared.Row.{Row}
 use Rattle.report.specs.declared.page.Page.{Page}
-use Rattle.report.proofs.PutLaws.{puts_then, put_length}
-use Rattle.report.proofs.PrintLaws.{decimal_less, decimal_more, decimal_length}
+use Rattle.report.proofs.PutLaws.{puts_then, put_length, Completes, one_more, none_left}
+use Rattle.report.proofs.PrintLaws.{decimal_less, decimal_more, decimal_length, fields_next, fields_end}
+
+-- ---- bytes, and numbers after their commas, in the loops over them, and none left
+
+module _ {from here : Page} {whole : List ℕ} (ns : List ℕ) (i : ℕ) where
+  pub byte_more : {later : Page} (d : ℕ) → i < length ns → Completes from whole here (drop i ns) → Puts here (get_or ns i d ∷ []) later → Completes from whole later (drop (i + 1) ns)
+  byte_more d h more = one_more more (rw (add-one i) (drop-cons ns i d h))
+
+  pub bytes_end : length ns ≤ i → Completes from whole here (drop i ns) → Puts from whole here
+  bytes_end h more = none_left more (drop_of_length-le ns h)
+
+  pub field_more : {mid later : Page} → i < length ns → Completes from whole here (after_commas (drop i ns)) → Puts here (comma ∷ []) mid → Puts mid (decimal (get_or ns i 0)) later
+      → Completes from whole later (after_commas (drop (i + 1) ns))
+  unfolding after_comma
+  field_more h more p k = one_more more (rw (add-one i) (fields_next ns i h)) (puts_then p k)
+
+  pub line_end : {later : Page} → length ns ≤ i → Completes from whole here (after_commas (drop i ns)) → Puts here (LF ∷ []) later → Puts from whole later
+  line_end h more p = more.by _ (rw (fields_end ns i h) p)
 
 -- ---- a number
 
