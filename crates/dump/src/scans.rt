@@ -16,7 +16,7 @@ use rules::Motor;
 use status::switches::read;
 
 // A motor through a scan that is accepted. At rest its status alone is reckoned, and written. It is the body of print's loop, which counts
-// the totals too: they are none of a dump's.
+// the totals too: a dump has none.
 #[tactic(auto, using(interpreter::proofs::ScanLaws::rested, rules::proofs::Tables::one_accepted), unfolding(rules::specs::Record::with_status))]
 fn step(m: &mut Motor, word: u32, period: u32)
     requires { one_refusal m.old word period ≡ 0 }

@@ -1,5 +1,5 @@
 // The search for LF, for programs in Rust or C to link (the crate `line_ends_c` exports it): they test it and measure it as
-// it is. Where there is no LF, the answer is the slice's length and no Option, since C calls it.
+// it is. Where there is no LF, the answer is the slice's length and no Option, since C, which has none, gets it as it is.
 #![tactic(auto)]
 
 ghost use Rattle.std.specs.Prelude.{◌≡◌, length, unwrap_or};

@@ -7,7 +7,7 @@ mod rows;
 
 pub use page::Page;
 
-// A motor's line after a scan.
+// A motor's line after a scan: numbers, as it is printed, and any.
 #[derive(Clone, Copy)]
 pub struct Row {
     pub scan: u32,
@@ -20,7 +20,7 @@ pub struct Row {
     pub flags: u32,
 }
 
-// A motor's line at the end of a file.
+// A motor's line at the end of a file, likewise. Its counts are those of `Totals`, whose crate lies above this one.
 #[derive(Clone, Copy)]
 pub struct TotalsRow {
     pub number: u32,

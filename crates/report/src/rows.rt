@@ -35,6 +35,7 @@ impl<'a> Page<'a> {
         self.line(b'R', &numbers)
     }
 
+    // The stores ask for room, each for its own number of bytes, which no type can tell: there is no computed const argument.
     fn store_row(&mut self, row: Row)
         requires room { Fits self.old 90 }
         requires states { short_states row ≡ true }

@@ -33,7 +33,7 @@ pub enum Line {
 // What a line asks for.
 #[derive(Clone, Copy)]
 pub enum Request {
-    // M,number,OPS_1,OPS_2,W,U
+    // M,number,OPS_1,OPS_2,W,U: by field, as its definition has it, and no `Settings`, since any number is read here
     Motor {
         number: u32,
         ops1: u32,

@@ -36,7 +36,7 @@ pub fn number_at(file: &[u8], at: usize) -> Option<(u32, usize)>
         return Some((0, at + 1));
     }
     let mut value: u64 = 0;
-    // no `for`: the place where the digits end is answered too
+    // no `for`: the place where the digits end is answered too; and a chain would go through them twice
     let mut i = at;
     while let Some(digit) = digit_at(file, i) {
         value = value * 10 + digit as u64;

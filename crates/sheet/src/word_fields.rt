@@ -34,7 +34,7 @@ pub fn hex_run(s: &[u8], at: usize) -> Option<(u32, usize)>
     ensures { result ≡ hex_run_at s.now at }
 {
     let mut value: u32 = 0;
-    // no `for`: the place where the digits end is answered too
+    // no `for`, as in `number_at`
     let mut i = at;
     while let Some(digit) = hex_digit_at(s, i) {
         if i - at == MOST_DIGITS {
@@ -46,7 +46,7 @@ pub fn hex_run(s: &[u8], at: usize) -> Option<(u32, usize)>
     (at < i).then_some((value, i))
 }
 
-// What stands after 0x: digits alone.
+// What stands after 0x: digits alone. These are the two lines of `read_number`, which a function for both would not shorten.
 #[tactic(auto, using(crate::proofs::HexRunLaws::digits_none, crate::proofs::HexRunLaws::digits_said))]
 fn hex_digits(digits: &[u8]) -> Option<u32>
     ensures { result ≡ hex_number digits.now }

@@ -35,7 +35,8 @@ fn scan_fresh(
     )
 }
 
-// A full table: the first motor and the last are scanned.
+// A full table: the first motor and the last are scanned. By `match`, here and below: tried with `is_ok_and`, of whose closure the check
+// computes nothing.
 #[tactic(auto, using(rules::proofs::Numbers::number_positive), unfolding(rules::specs::Opened::opened))]
 fn full() -> bool
     ensures { result ≡ true }

@@ -53,7 +53,7 @@ pub fn without_bit(w: u32, k: u32) -> u32
     if k < 32 { masked_out(w, 1 << k) } else { w }
 }
 
-// One of two: a if the test holds. For the steps: it compiles to no branch, and proves by its contract alone, as an `if` in them does not.
+// One of two: a if the test holds. The steps choose by it, since it compiles to no branch.
 #[tactic(auto, unfolding(crate::specs::Opened::choices))]
 pub fn choose<T: Copy>(test: bool, a: T, b: T) -> T
     ensures { result ≡ (when test then a else b) }
