@@ -19,7 +19,7 @@ impl Course for Recording {
     const MOST_PUT: usize = 2633;
 
     // An empty bench before the first line of a file. Of a file that is too long there is no dump. With the beginning comes the
-    // claim on reading back (`Begins`), so that it cannot be lost.
+    // claim on reading back (`Begins`), so that it cannot be lost. Print's `begin` puts a refusal, and counts lines.
     fn begin(file: &[u8], _page: &mut Page) -> Recording {
         let at = if is_too_long(file.len()) {
             file.len() + 1

@@ -15,7 +15,8 @@ struct InputLine {
     next: usize,
 }
 
-// The words that the motors hold, at a place of a file, where the line of this number begins.
+// The words that the motors hold, at a place of a file, where the line of this number begins. How many are held, in fixed memory as in `Bench`,
+// `take` is told, since it stays in a run.
 #[derive(Clone, Copy)]
 pub struct Inputs {
     pub words: [u32; MOST_MOTORS],

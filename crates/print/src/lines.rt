@@ -52,7 +52,7 @@ impl Course for Sitting {
 
     const MOST_PUT: usize = 3232;
 
-    // A file that is too long is refused, and has nothing more to print.
+    // A file that is too long is refused, and has nothing more to print. Dump's `begin` differs in what it puts and in what it begins.
     fn begin(file: &[u8], page: &mut Page) -> Sitting {
         let at = if is_too_long(file.len()) {
             page.refusal(0, u32::from(Refusal::Size));

@@ -4,7 +4,8 @@ ghost use Rattle.sheet.specs.Split.{field_of, field_count};
 
 pub const COMMA: u8 = b',';
 
-// Field k of a line, counted from 0; an empty part where the line has no such field.
+// Field k of a line, counted from 0; an empty part where the line has no such field, as its definition has it: no number and no word is
+// empty, so that an Option would only be asked for at each field.
 pub fn field(line: &[u8], k: usize) -> &[u8]
     ensures { result.now ≡ field_of line.now k }
 {

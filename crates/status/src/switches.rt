@@ -34,7 +34,8 @@ pub fn read_on_switch(word: u32) -> Reading
     }
 }
 
-// The reading of an On and an Off switch: sure if they differ, otherwise both open or both closed.
+// The reading of an On and an Off switch: sure if they differ, otherwise both open or both closed. No `From`, here and below: two bools, or an
+// Option of a number, would not say by themselves what they are.
 pub fn read_pair(on: bool, off: bool) -> Reading
     ensures { result ≡ pair_read on off }
 {

@@ -1,6 +1,6 @@
 // Scans over lent records, and one over an array by value.
-// Records, words and period go side by side, and so do an array, its count and its words: the paper names these forms, and a caller that lends
-// its motors keeps their words.
+// Records, words and period go side by side, and so do an array, its count and its words: the paper names these forms, the array for
+// fixed memory, and a caller that lends its motors keeps their words.
 #![tactic(auto)]
 
 ghost use Rattle.std.specs.Prelude.{◌≡◌};
@@ -30,6 +30,7 @@ fn is_misfit(motors: usize, words: usize) -> bool
     (motors != words) | (MOST_MOTORS < motors)
 }
 
+// This and the next are a line each: a function for both would take the test as a closure to its one line.
 fn are_in_range(table: &[Motor]) -> bool
     ensures { result ≡ list_all in_range table.now }
 {

@@ -35,8 +35,8 @@ fn scan_fresh(
     )
 }
 
-// A full table: the first motor and the last are scanned. By `match`, here and below: tried with `is_ok_and`, of whose closure the check
-// computes nothing.
+// A full table: the first motor and the last are scanned. A function for each table, since each looks at other motors, and by `match`: tried
+// with `is_ok_and`, of whose closure the check computes nothing.
 #[tactic(auto, using(rules::proofs::Numbers::number_positive), unfolding(rules::specs::Opened::opened))]
 fn full() -> bool
     ensures { result ≡ true }
