@@ -15,7 +15,8 @@ use Rattle.sheet.specs.Number.{largest, is_digit, all_digits, value_from, number
 use Rattle.sheet.specs.WordField.{word_of}
 use Rattle.std.specs.Prelude.{Some}
 use Rattle.sheet.proofs.SplitLaws.{last_byte}
-use Rattle.sheet.proofs.NumberLaws.{value_grows, digit_range, all_snoc, value_more, digits_free, Spells, spells_number, number_spells}
+use Rattle.sheet.proofs.RunLaws.{all_snoc, all_free}
+use Rattle.sheet.proofs.NumberLaws.{value_grows, digit_range, value_more, Spells, spells_number, number_spells}
 use Rattle.sheet.proofs.WordFieldLaws.{number_word}
 use Rattle.report.specs.Print.{digits_of, decimal}
 use Rattle.report.proofs.PrintLaws.{digits_less, digits_more}
@@ -40,14 +41,14 @@ first_digit (b ∷ c ∷ s) p h = p.plain (omega arith)
 -- ---- the digits of a number spell it
 
 spells_one : (n : ℕ) → n < 10 → Spells n ((48 + n) ∷ [])
-unfolding all_digits value_from
+unfolding value_from
 spells_one n h = record { some = omega arith; digits = rw (is_digit_lem n h); value = omega arith; plain = λ l. absurd (omega arith) }
 
 spells_more : (n : ℕ) (s : List ℕ) → 10 ≤ n → Spells (n / 10) s → Spells n (s ++ ((48 + n % 10) ∷ []))
 spells_more n s h p =
     record {
       some = omega (arith, length-append s ((48 + n % 10) ∷ []));
-      digits = rw (all_snoc s (48 + n % 10), p.digits, is_digit_lem (n % 10) (omega arith));
+      digits = rw (all_snoc is_digit s (48 + n % 10), p.digits, is_digit_lem (n % 10) (omega arith));
       value = rw (value_more 0 s (48 + n % 10), p.value) (omega arith);
       plain = λ l. rw (get_or-append s ((48 + n % 10) ∷ []) 0 0 p.some) (first_digit s p (omega arith));
     }
@@ -75,7 +76,7 @@ record Last (n b : ℕ) (s : List ℕ) : Type 0 where
 
 last_of : {n : ℕ} (s : List ℕ) (b : ℕ) → 0 < length s → Spells n (s ++ (b ∷ [])) → Last n b s
 last_of {n} s b h p =
-    let e = and_true (all_digits s) (is_digit b) (rw (all_snoc s b) at p.digits) in
+    let e = and_true (all_digits s) (is_digit b) (rw (all_snoc is_digit s b) at p.digits) in
     let d = digit_range b e.1 in
     let l = d.0 in
     let m = d.1 in
@@ -94,10 +95,10 @@ last {n} s h p =
     (subst (λ (l : List ℕ). Spells n l) (last_byte (length s - 1) s (omega arith)) p)
 
 spelt_one : (k : ℕ) {n : ℕ} (s : List ℕ) → length s ≤ 1 → Spells n s → s ≡ digits_of (suc k) n
-unfolding all_digits value_from
+unfolding value_from
 spelt_one k [] h p = absurd (omega (arith, p.some))
 spelt_one k {n} (b ∷ []) h p =
-    let d = digit_range b (sym (all_snoc [] b) ∙ p.digits) in
+    let d = digit_range b (sym (all_snoc is_digit [] b) ∙ p.digits) in
     let e : b ≡ 48 + n = omega (arith, p.value, d.0) in
     rw (e, digits_less k n (omega (arith, p.value, d.1)))
 spelt_one k (b ∷ c ∷ s) h p = absurd (omega arith)
@@ -139,4 +140,4 @@ print_back field n e = let p = number_spells field n e in digits_spelt 9 n field
 
 pub decimal_free : (b n : ℕ) → b < 48 → n ≤ largest → index_of b (decimal n) ≡ length (decimal n)
 unfolding decimal
-decimal_free b n h l = digits_free b (decimal n) (low_byte b h) (spells_digits 9 n (omega arith)).digits
+decimal_free b n h l = all_free is_digit b (decimal n) (low_byte b h) (spells_digits 9 n (omega arith)).digits

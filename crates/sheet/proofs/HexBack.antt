@@ -1,7 +1,7 @@
 -- Hexadecimal words are read back: of all fields with 0x and k digits the print of n in k digits alone says n. Assumes nothing.
 use Prim.Native.Nat.{ℕ, zero, suc, ◌+◌, ◌-◌, ◌*◌, ◌/◌, ◌%◌, ◌^◌, ◌<◌, ◌≤◌}
 use mathlib.Core.Path.{◌≡◌, refl, sym, ap, subst, ◌∙◌}
-use mathlib.Core.Bool.{Bool, true, false, ◌&&◌, ◌||◌, and-true as and_one, and_assoc}
+use mathlib.Core.Bool.{Bool, true, false, ◌&&◌, ◌||◌}
 use mathlib.Core.List.{List, [], ◌∷◌, ◌++◌}
 use native.Mathlib.Decide.{dec_lt}
 use native.Mathlib.Omega.{arith}
@@ -15,6 +15,7 @@ use Rattle.words.proofs.Laws.{and_true, agree_at, both_le}
 use Rattle.sheet.specs.Number.{is_digit}
 use Rattle.sheet.specs.WordField.{is_hex_digit, hex_digit, all_hex_digits, hex_from, is_hex_count, hex_number, has0x, word_of, hex_digit_of, hex_digits_of, hexadecimal}
 use Rattle.std.specs.Prelude.{Some}
+use Rattle.sheet.proofs.RunLaws.{all_snoc}
 use Rattle.sheet.proofs.SplitLaws.{last_byte}
 use Rattle.sheet.proofs.WordFieldLaws.{digit_small, HexSays, hex_says, hex_field}
 
@@ -50,11 +51,6 @@ digit_print b h = go (leb 48 b && leb b 57) refl h
 
 -- ---- one digit more at the end
 
-all_more : (s : List ℕ) (b : ℕ) → all_hex_digits (s ++ (b ∷ [])) ≡ (all_hex_digits s && is_hex_digit b)
-unfolding all_hex_digits
-all_more [] b = and_one (is_hex_digit b)
-all_more (x ∷ s) b = ap (λ (t : Bool). is_hex_digit x && t) (all_more s b) ∙ sym (and_assoc (is_hex_digit x) (all_hex_digits s) (is_hex_digit b))
-
 value_more : (v : ℕ) (s : List ℕ) (b : ℕ) → hex_from v (s ++ (b ∷ [])) ≡ hex_from v s * 16 + hex_digit b
 unfolding hex_from
 value_more v [] b = refl
@@ -63,7 +59,7 @@ value_more v (x ∷ s) b = value_more (v * 16 + hex_digit x) s b
 -- ---- the digits of n say n
 
 digits_say : (k n : ℕ) → n < 16 ^ k → HexSays (hex_digits_of k n) n
-unfolding hex_digits_of all_hex_digits hex_from
+unfolding hex_digits_of hex_from
 digits_say zero n h = record { digits = refl; value = omega (arith, pow-zero 16) }
 digits_say (suc k) n h =
     let p = digits_say k (n / 16) (omega (arith, pow-suc 16 k)) in
@@ -71,7 +67,7 @@ digits_say (suc k) n h =
     let s = hex_digits_of k (n / 16) in
     let b = hex_digit_of (n % 16) in
     record {
-      digits = rw (all_more s b, p.digits, digit_is (n % 16) d);
+      digits = rw (all_snoc is_hex_digit s b, p.digits, digit_is (n % 16) d);
       value = rw (value_more 0 s b, p.value, digit_back (n % 16) d) (omega arith);
     }
 
@@ -95,7 +91,7 @@ record Last (p : List ℕ) (b n : ℕ) : Type 0 where
 
 last : (p : List ℕ) (b n : ℕ) → HexSays (p ++ (b ∷ [])) n → Last p b n
 last p b n h =
-    let e = and_true (all_hex_digits p) (is_hex_digit b) (sym (all_more p b) ∙ h.digits) in
+    let e = and_true (all_hex_digits p) (is_hex_digit b) (sym (all_snoc is_hex_digit p b) ∙ h.digits) in
     let v : hex_from 0 p * 16 + hex_digit b ≡ n = sym (value_more 0 p b) ∙ h.value in
     let l = digit_small b e.1 in
     let r : hex_digit b ≡ n % 16 = omega arith in

@@ -6,18 +6,18 @@ use mathlib.Core.List.{List, [], ◌∷◌}
 use native.Mathlib.Omega.{arith}
 use native.Mathlib.Decide.{dec_lt}
 use native.Mathlib.Nat.{pow-zero, pow-suc}
-use lib.ListN.{length, take, drop, get_or, length-drop, drop_of_length-le}
-use lib.Seq.{drop-cons, drop-drop}
+use lib.ListN.{length, drop, get_or, length-drop}
+use lib.Seq.{drop-drop}
 use lib.Dec.{eqb, leb, ltb}
-use borrow.Author.Tests.{eq-eqb, ne_eqb, le-leb, lt-leb, lt-ltb, le-ltb, ltb-true, ltb-false}
+use borrow.Author.Tests.{eq-eqb, ne_eqb, le-leb, lt-leb, lt-ltb, le-ltb, ltb-true}
 use Rattle.words.specs.Word.{when◌then◌else◌}
-use Rattle.words.proofs.Laws.{and_true, either}
 use Rattle.sheet.specs.Split.{between}
 use Rattle.sheet.specs.WordField.{is_hex_digit, hex_digit, all_hex_digits, hex_from, is_hex_count, hex_number, has0x, word_of}
 use Rattle.sheet.specs.Places.{hex_digit_at, hex_run, hex_run_at, SaidAt, Read}
 use Rattle.std.specs.Prelude.{Option, Some, None}
 use Rattle.std.specs.Bool.{then_some}
 use Rattle.std.proofs.lemmas.Option.{none-some, same_Some, some_pair_parts}
+use Rattle.sheet.proofs.RunLaws.{run_all, all_run, run_passes, run_take, run_le, run_here, run_end}
 use Rattle.sheet.proofs.SplitLaws.{between_last}
 use Rattle.sheet.proofs.WordFieldLaws.{digit_small, hex_fits, hex_field}
 
@@ -31,25 +31,20 @@ pub record HexHere (s : List ℕ) (i d : ℕ) : Type 0 where
 
 module _ (s : List ℕ) (i : ℕ) where
   pub hex_here : (d : ℕ) → Some d ≡ hex_digit_at s i → HexHere s i d
-  unfolding hex_digit_at hex_run when◌then◌else◌
+  unfolding hex_digit_at when◌then◌else◌
   hex_here d h = go (ltb i (length s)) refl (is_hex_digit (get_or s i 0)) refl h
     where
       go : (x : Bool) → ltb i (length s) ≡ x → (y : Bool) → is_hex_digit (get_or s i 0) ≡ y → Some d ≡ then_some (x && y) (hex_digit (get_or s i 0)) → HexHere s i d
       go true e true f h =
           let l = ltb-true i (length s) e in
           let v = sym (same_Some _ _ h) in
-          record { inside = l; small = omega (arith, digit_small (get_or s i 0) f); run = rw (drop-cons s i 0 l, f); value = v }
+          record { inside = l; small = omega (arith, digit_small (get_or s i 0) f); run = run_here is_hex_digit s i l f; value = v }
       go true e false f h = absurd (none-some _ (sym h))
       go false e y f h = absurd (none-some _ (sym h))
 
-  pub run_end : None ≡ hex_digit_at s i → hex_run (drop i s) ≡ []
-  unfolding hex_digit_at hex_run when◌then◌else◌
-  run_end h = go (ltb i (length s)) refl (is_hex_digit (get_or s i 0)) refl h
-    where
-      go : (x : Bool) → ltb i (length s) ≡ x → (y : Bool) → is_hex_digit (get_or s i 0) ≡ y → None ≡ then_some (x && y) (hex_digit (get_or s i 0)) → hex_run (drop i s) ≡ []
-      go true e true f h = absurd (none-some _ h)
-      go true e false f h = rw (drop-cons s i 0 (ltb-true i (length s) e), f)
-      go false e y f h = rw (drop_of_length-le s (ltb-false i (length s) e))
+  over : None ≡ hex_digit_at s i → hex_run (drop i s) ≡ []
+  unfolding hex_digit_at
+  over h = run_end is_hex_digit s i _ h
 
 -- ---- the digits read so far
 
@@ -102,53 +97,15 @@ module _ {s : List ℕ} {at value i : ℕ} (r : Run s at value i) where
 
       go : Dec (at < i) → then_some {T = ℕ × ℕ} (leb 1 n && leb n 8) (hex_from 0 (hex_run (drop at s)), at + n) ≡ then_some (ltb at i) (value, i)
       go (yes l) =
-          let v : hex_from 0 (hex_run (drop at s)) ≡ value = r.says ∙ rw (run_end s i h) in
-          let m : n ≡ i - at = omega (arith, r.count, ap length (run_end s i h)) in
+          let v : hex_from 0 (hex_run (drop at s)) ≡ value = r.says ∙ rw (over s i h) in
+          let m : n ≡ i - at = omega (arith, r.count, ap length (over s i h)) in
           let p : at + n ≡ i = omega (arith, r.from) in
           rw (le-leb 1 n (omega arith), le-leb n 8 (omega (arith, r.few)), v, p, lt-ltb at i l)
       go (no l) =
-          let m : n ≡ 0 = omega (arith, r.count, r.from, ap length (run_end s i h)) in
+          let m : n ≡ 0 = omega (arith, r.count, r.from, ap length (over s i h)) in
           rw (lt-leb 1 n (omega arith), le-ltb at i (omega arith))
 
 -- ---- all digits of a field
-
-run_all : (s : List ℕ) → all_hex_digits s ≡ true → hex_run s ≡ s
-unfolding hex_run all_hex_digits when◌then◌else◌
-run_all [] e = refl
-run_all (b ∷ s) e = let w = and_true (is_hex_digit b) (all_hex_digits s) e in rw (w.0, run_all s w.1)
-
-all_run : (s : List ℕ) → length (hex_run s) ≡ length s → all_hex_digits s ≡ true
-unfolding hex_run all_hex_digits when◌then◌else◌
-all_run [] e = refl
-all_run (b ∷ s) e = go (is_hex_digit b) e (all_run s)
-  where
-    go : (t : Bool) → length (when t then b ∷ hex_run s else []) ≡ suc (length s) → (length (hex_run s) ≡ length s → all_hex_digits s ≡ true)
-        → (t && all_hex_digits s) ≡ true
-    go true e ih = ih (omega arith)
-    go false e ih = absurd (omega arith)
-
-run_digits : (s : List ℕ) → all_hex_digits (hex_run s) ≡ true
-unfolding hex_run all_hex_digits when◌then◌else◌
-run_digits [] = refl
-run_digits (b ∷ s) = go (is_hex_digit b) refl (run_digits s)
-  where
-    go : (t : Bool) → is_hex_digit b ≡ t → all_hex_digits (hex_run s) ≡ true → all_hex_digits (when t then b ∷ hex_run s else []) ≡ true
-    go true e ih = rw (e, ih)
-    go false e ih = refl
-
-run_take : (s : List ℕ) → take (length (hex_run s)) s ≡ hex_run s
-unfolding hex_run when◌then◌else◌
-run_take [] = refl
-run_take (b ∷ s) = go (is_hex_digit b) (run_take s)
-  where
-    go : (t : Bool) → take (length (hex_run s)) s ≡ hex_run s → take (length (when t then b ∷ hex_run s else [])) (b ∷ s) ≡ (when t then b ∷ hex_run s else [])
-    go true ih = ap (λ (l : List ℕ). b ∷ l) ih
-    go false ih = refl
-
-run_le : (s : List ℕ) → length (hex_run s) ≤ length s
-unfolding hex_run
-run_le [] = omega arith
-run_le (b ∷ s) = either (λ (l : List ℕ). length l ≤ suc (length s)) (is_hex_digit b) (omega (arith, run_le s)) (omega arith)
 
 module _ (s : List ℕ) where
   pub digits_none : hex_run_at s 0 ≡ None → hex_number s ≡ None
@@ -158,7 +115,7 @@ module _ (s : List ℕ) where
       go : (t : Bool) → is_hex_count (length (hex_run s)) ≡ t → then_some {T = ℕ × ℕ} t (hex_from 0 (hex_run s), 0 + length (hex_run s)) ≡ None
           → (y : Bool) → all_hex_digits s ≡ y → then_some (is_hex_count (length s) && y) (hex_from 0 s) ≡ None
       go true f e y g = absurd (none-some _ (sym e))
-      go false f e true g = rw (sym (ap (λ (l : List ℕ). is_hex_count (length l)) (run_all s g)) ∙ f)
+      go false f e true g = rw (sym (ap (λ (l : List ℕ). is_hex_count (length l)) (run_all is_hex_digit s g)) ∙ f)
       go false f e false g = rw (and-false (is_hex_count (length s)))
 
   pub digits_said : {value end : ℕ} → hex_run_at s 0 ≡ Some (value, end) → hex_number s ≡ then_some (eqb end (length s)) value
@@ -169,11 +126,11 @@ module _ (s : List ℕ) where
           → (y : Bool) → all_hex_digits s ≡ y → then_some (is_hex_count (length s) && y) (hex_from 0 s) ≡ then_some (eqb end (length s)) value
       go true f e true g =
           let p = some_pair_parts _ _ _ _ e in
-          let q = run_all s g in
+          let q = run_all is_hex_digit s g in
           rw (sym (ap (λ (l : List ℕ). is_hex_count (length l)) q) ∙ f, sym (ap (hex_from 0) q) ∙ p.0, eq-eqb end (length s) (omega (arith, p.1, ap length q)))
       go true f e false g =
           let p = (some_pair_parts _ _ _ _ e).1 in
-          rw (and-false (is_hex_count (length s)), ne_eqb end (length s) (λ k. false≢true (sym g ∙ all_run s (omega arith))))
+          rw (and-false (is_hex_count (length s)), ne_eqb end (length s) (λ k. false≢true (sym g ∙ all_run is_hex_digit s (omega arith))))
       go false f e y g = absurd (none-some _ e)
 
 -- ---- a word after 0x, where it stands
@@ -192,10 +149,10 @@ module _ (file : List ℕ) (at : ℕ) (x : has0x (between at (length file) file)
       let run = hex_run (drop (at + 2) file) in
       let n = length run in
       let k : at + 2 + n - at ≡ suc (suc n) = omega arith in
-      let field : between at (at + 2 + n) file ≡ 48 ∷ 120 ∷ run = rw (k, bytes) (ap (λ (l : List ℕ). 48 ∷ 120 ∷ l) (run_take (drop (at + 2) file))) in
+      let field : between at (at + 2 + n) file ≡ 48 ∷ 120 ∷ run = rw (k, bytes) (ap (λ (l : List ℕ). 48 ∷ 120 ∷ l) (run_take is_hex_digit (drop (at + 2) file))) in
       record {
-        within = omega (arith, two_inside, run_le (drop (at + 2) file), length-drop (at + 2) file);
-        says = ap word_of field ∙ rw (f, run_digits (drop (at + 2) file));
+        within = omega (arith, two_inside, run_le is_hex_digit (drop (at + 2) file), length-drop (at + 2) file);
+        says = ap word_of field ∙ rw (f, run_passes is_hex_digit (drop (at + 2) file));
       }
 
   pub run_word : (r : Option (ℕ × ℕ)) → r ≡ hex_run_at file (at + 2) → Read word_of file at r

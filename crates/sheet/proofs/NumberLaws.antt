@@ -1,16 +1,15 @@
 -- Laws of digits and the numbers that they say. Assumes nothing.
-use Prim.Native.Nat.{ℕ, suc, ◌+◌, ◌-◌, ◌*◌, ◌<◌, ◌≤◌}
-use mathlib.Core.Path.{◌≡◌, refl, sym, ap, ◌∙◌}
-use mathlib.Core.Bool.{Bool, true, false, ◌&&◌, ◌||◌, false≢true, and-true as and_one, and-false, and_assoc}
+use Prim.Native.Nat.{ℕ, ◌+◌, ◌-◌, ◌*◌, ◌<◌, ◌≤◌}
+use mathlib.Core.Path.{◌≡◌, refl, sym, ◌∙◌}
+use mathlib.Core.Bool.{Bool, true, false, ◌&&◌, ◌||◌, and-true as and_one, and-false}
 use mathlib.Core.List.{List, [], ◌∷◌, ◌++◌}
 use native.Mathlib.Decide.{dec_lt}
 use native.Mathlib.Omega.{arith}
 use lib.ListN.{length, get_or}
 use lib.Dec.{eqb, leb, ltb}
-use borrow.Author.Tests.{le-leb, ne_eqb, le-ltb, lt-ltb, leb-true, eqb-true, eqb-false}
+use borrow.Author.Tests.{le-leb, ne_eqb, le-ltb, lt-ltb, leb-true, eqb-false}
 use Rattle.words.specs.Word.{when◌then◌else◌}
 use Rattle.words.proofs.Laws.{and_true, both_le}
-use Rattle.sheet.specs.Split.{index_of}
 use Rattle.sheet.specs.Number.{largest, is_digit, all_digits, value_from, digits_number, leading_zero, number_of}
 use Rattle.std.specs.Prelude.{Some, None}
 use Rattle.std.specs.Bool.{then_some}
@@ -28,30 +27,14 @@ unfolding is_digit
 digit_range b e = both_le e
 
 -- one digit more at the end
-pub all_snoc : (s : List ℕ) (b : ℕ) → all_digits (s ++ b ∷ []) ≡ (all_digits s && is_digit b)
-unfolding all_digits
-all_snoc [] b = and_one (is_digit b)
-all_snoc (x ∷ s) b = ap (λ (t : Bool). is_digit x && t) (all_snoc s b) ∙ sym (and_assoc (is_digit x) (all_digits s) (is_digit b))
-
 pub value_more : (v : ℕ) (s : List ℕ) (b : ℕ) → value_from v (s ++ b ∷ []) ≡ value_from v s * 10 + (b - 48)
 unfolding value_from
 value_more v [] b = refl
 value_more v (x ∷ s) b = value_more (v * 10 + (x - 48)) s b
 
 pub first_digit : (s : List ℕ) → all_digits s ≡ true → 0 < length s → 48 ≤ get_or s 0 0
-unfolding all_digits
 first_digit [] e h = absurd (omega arith)
 first_digit (x ∷ s) e h = (digit_range x (and_true (is_digit x) (all_digits s) e).0).0
-
--- a byte that is no digit is not among them
-pub digits_free : (b : ℕ) (s : List ℕ) → is_digit b ≡ false → all_digits s ≡ true → index_of b s ≡ length s
-unfolding index_of all_digits when◌then◌else◌
-digits_free b [] f e = refl
-digits_free b (x ∷ s) f e = let w = and_true (is_digit x) (all_digits s) e in go (eqb x b) refl w.0 (digits_free b s f w.1)
-  where
-    go : (t : Bool) → eqb x b ≡ t → is_digit x ≡ true → index_of b s ≡ length s → (when t then 0 else suc (index_of b s)) ≡ suc (length s)
-    go true g d ih = absurd (false≢true (sym f ∙ ap is_digit (sym (eqb-true x b g)) ∙ d))
-    go false g d ih = ap suc ih
 
 -- ---- what a field of digits says
 

@@ -5,52 +5,21 @@ use mathlib.Core.Bool.{Bool, true, false, ◌&&◌, and-false}
 use mathlib.Core.List.{List, [], ◌∷◌}
 use native.Mathlib.Omega.{arith}
 use native.Mathlib.Decide.{dec_lt}
-use lib.ListN.{length, take, drop, get_or, length-drop, drop_of_length-le}
-use lib.Seq.{drop-cons}
+use lib.ListN.{length, drop, get_or, length-drop}
 use lib.Dec.{eqb, leb, ltb}
-use borrow.Author.Tests.{eq-eqb, ne_eqb, le-leb, lt-leb, leb-true, lt-ltb, le-ltb, ltb-true, ltb-false}
+use borrow.Author.Tests.{eq-eqb, ne_eqb, le-leb, lt-leb, leb-true, lt-ltb, le-ltb, ltb-true}
 use Rattle.std.specs.Prelude.{Option, Some, None}
 use Rattle.std.specs.Bool.{then_some}
 use Rattle.std.proofs.lemmas.Option.{none-some, some_pair_parts}
 use Rattle.words.specs.Word.{when◌then◌else◌}
-use Rattle.words.proofs.Laws.{and_true, either}
 use Rattle.sheet.specs.Split.{between}
-use Rattle.sheet.specs.Number.{largest, is_digit, all_digits, value_from, number_of}
+use Rattle.sheet.specs.Number.{largest, is_digit, value_from, number_of}
 use Rattle.sheet.specs.WordField.{word_of}
 use Rattle.sheet.specs.Places.{is_at, is_digit_at, digit_run, number_at, SaidAt, Read}
 use Rattle.sheet.proofs.SplitLaws.{between_last}
+use Rattle.sheet.proofs.RunLaws.{run_all, run_passes, run_take, run_le, run_here, run_end}
 use Rattle.sheet.proofs.NumberLaws.{value_grows, Spells, number_spells}
 use Rattle.sheet.proofs.PlaceLaws.{DigitAt, Digits, byte_at, zero_number, digits_said, number_read}
-
--- ---- the digits of some bytes
-
-run_all : (s : List ℕ) → all_digits s ≡ true → digit_run s ≡ s
-unfolding digit_run all_digits when◌then◌else◌
-run_all [] e = refl
-run_all (b ∷ s) e = let w = and_true (is_digit b) (all_digits s) e in rw (w.0, run_all s w.1)
-
-run_digits : (s : List ℕ) → all_digits (digit_run s) ≡ true
-unfolding digit_run all_digits when◌then◌else◌
-run_digits [] = refl
-run_digits (b ∷ s) = go (is_digit b) refl (run_digits s)
-  where
-    go : (t : Bool) → is_digit b ≡ t → all_digits (digit_run s) ≡ true → all_digits (when t then b ∷ digit_run s else []) ≡ true
-    go true e ih = rw (e, ih)
-    go false e ih = refl
-
-run_take : (s : List ℕ) → take (length (digit_run s)) s ≡ digit_run s
-unfolding digit_run when◌then◌else◌
-run_take [] = refl
-run_take (b ∷ s) = go (is_digit b) (run_take s)
-  where
-    go : (t : Bool) → take (length (digit_run s)) s ≡ digit_run s → take (length (when t then b ∷ digit_run s else [])) (b ∷ s) ≡ (when t then b ∷ digit_run s else [])
-    go true ih = ap (λ (l : List ℕ). b ∷ l) ih
-    go false ih = refl
-
-run_le : (s : List ℕ) → length (digit_run s) ≤ length s
-unfolding digit_run
-run_le [] = omega arith
-run_le (b ∷ s) = either (λ (l : List ℕ). length l ≤ suc (length s)) (is_digit b) (omega (arith, run_le s)) (omega arith)
 
 -- ---- the digits read so far
 
@@ -64,24 +33,18 @@ pub run_none : (s : List ℕ) (at : ℕ) → Run s at 0 at
 run_none s at = record { from = omega arith; fits = omega arith; says = refl; count = omega arith }
 
 module _ (s : List ℕ) (i : ℕ) where
-  run_here : {d : ℕ} → DigitAt s i d → digit_run (drop i s) ≡ get_or s i 0 ∷ digit_run (drop (suc i) s)
-  unfolding digit_run when◌then◌else◌
-  run_here w = rw (drop-cons s i 0 w.inside, w.is)
+  here : {d : ℕ} → DigitAt s i d → digit_run (drop i s) ≡ get_or s i 0 ∷ digit_run (drop (suc i) s)
+  here w = run_here is_digit s i w.inside w.is
 
-  run_end : None ≡ then_some (is_digit_at s i) (get_or s i 0 - 48) → digit_run (drop i s) ≡ []
-  unfolding is_digit_at digit_run when◌then◌else◌
-  run_end h = go (ltb i (length s)) refl (is_digit (get_or s i 0)) refl h
-    where
-      go : (x : Bool) → ltb i (length s) ≡ x → (y : Bool) → is_digit (get_or s i 0) ≡ y → None ≡ then_some (x && y) (get_or s i 0 - 48) → digit_run (drop i s) ≡ []
-      go true e true f h = absurd (none-some _ h)
-      go true e false f h = rw (drop-cons s i 0 (ltb-true i (length s) e), f)
-      go false e y f h = rw (drop_of_length-le s (ltb-false i (length s) e))
+  over : None ≡ then_some (is_digit_at s i) (get_or s i 0 - 48) → digit_run (drop i s) ≡ []
+  unfolding is_digit_at
+  over h = run_end is_digit s i _ h
 
 module _ {s : List ℕ} {at value i : ℕ} (r : Run s at value i) where
   pub run_more : {d : ℕ} → DigitAt s i d → value * 10 + d ≤ largest → Run s at (value * 10 + d) (suc i)
   unfolding value_from
   run_more w h =
-      let e = run_here s i w in
+      let e = here s i w in
       record {
         from = omega (arith, r.from);
         fits = h;
@@ -94,7 +57,7 @@ module _ {s : List ℕ} {at value i : ℕ} (r : Run s at value i) where
     unfolding number_at value_from when◌then◌else◌
     run_large {d} w h =
         let n : ℕ = value_from 0 (digit_run (drop at s)) in
-        let more : n ≡ value_from (value * 10 + d) (digit_run (drop (suc i) s)) = r.says ∙ rw (run_here s i w, w.value) in
+        let more : n ≡ value_from (value * 10 + d) (digit_run (drop (suc i) s)) = r.says ∙ rw (here s i w, w.value) in
         let past : largest < n = omega (arith, more, value_grows (value * 10 + d) (digit_run (drop (suc i) s))) in
         rw (z, lt-leb n largest past, and-false (ltb 0 (length (digit_run (drop at s)))))
 
@@ -106,10 +69,10 @@ module _ {s : List ℕ} {at value i : ℕ} (r : Run s at value i) where
         run = digit_run (drop at s)
 
         long : length run ≡ i - at
-        long = omega (arith, r.count, ap length (run_end s i h))
+        long = omega (arith, r.count, ap length (over s i h))
 
         v : value_from 0 run ≡ value
-        v = r.says ∙ rw (run_end s i h)
+        v = r.says ∙ rw (over s i h)
 
         go : Dec (at < i) → then_some {T = ℕ × ℕ} (ltb 0 (length run) && leb (value_from 0 run) largest) (value_from 0 run, at + length run) ≡ then_some (ltb at i) (value, i)
         go (yes l) =
@@ -131,11 +94,11 @@ module _ (file : List ℕ) (at : ℕ) where
       let run = digit_run (drop at file) in
       let n = length run in
       let k : at + n - at ≡ n = omega arith in
-      let all : between at (at + n) file ≡ run = rw (k, run_take (drop at file)) in
+      let all : between at (at + n) file ≡ run = rw (k, run_take is_digit (drop at file)) in
       let d : Digits file at (value_from 0 run) (at + n) = record {
         from = omega arith;
-        within = omega (arith, run_le (drop at file), length-drop at file);
-        digits = rw (all, run_digits (drop at file));
+        within = omega (arith, run_le is_digit (drop at file), length-drop at file);
+        digits = rw (all, run_passes is_digit (drop at file));
         says = rw all;
       } in
       digits_said file at d z (omega (arith, some)) h
@@ -183,7 +146,7 @@ module _ (s : List ℕ) where
       p = (number_spells s n e).0
 
       whole : digit_run s ≡ s
-      whole = run_all s p.digits
+      whole = run_all is_digit s p.digits
 
       go : (t : Bool) → is_at s 0 48 ≡ t → (when t then Some (0, 0 + 1) else then_some {T = ℕ × ℕ} (ltb 0 (length (digit_run (drop 0 s))) && leb (value_from 0 (digit_run (drop 0 s))) largest) (value_from 0 (digit_run (drop 0 s)), 0 + length (digit_run (drop 0 s)))) ≡ Some (n, length s)
       go true f =

@@ -85,7 +85,7 @@ pub record Digits (file : List ℕ) (at value i : ℕ) : Type 0 where
 module _ (file : List ℕ) (at : ℕ) where
   -- a 0 alone
   pub zero_number : is_at file at 48 ≡ true → SaidAt number_of file at 0 (at + 1)
-  unfolding between number_of digits_number leading_zero all_digits is_digit value_from when◌then◌else◌
+  unfolding between number_of digits_number leading_zero is_digit value_from when◌then◌else◌
   zero_number e =
       let n : at + 1 - at ≡ 1 = omega arith in
       record { within = omega (arith, (byte_at file at 48 e).0); says = rw (n, drop_byte file at 48 e) }

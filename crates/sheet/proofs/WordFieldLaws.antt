@@ -1,7 +1,7 @@
 -- Laws of hexadecimal digits and of the words that fields say. Assumes nothing.
 use Prim.Native.Nat.{ℕ, suc, ◌-◌, ◌<◌, ◌≤◌, ◌^◌}
 use mathlib.Core.Path.{◌≡◌, refl, sym, ap, ◌∙◌}
-use mathlib.Core.Bool.{Bool, true, false, ◌&&◌, ◌||◌, and-false, false≢true}
+use mathlib.Core.Bool.{Bool, true, false, ◌&&◌, ◌||◌, and-false}
 use mathlib.Core.List.{List, [], ◌∷◌}
 use native.Mathlib.Omega.{arith}
 use native.Mathlib.Decide.{dec_le}
@@ -18,7 +18,8 @@ use Rattle.sheet.specs.WordField.{is_hex_digit, hex_digit, all_hex_digits, hex_f
 use Rattle.std.specs.Prelude.{Some}
 use Rattle.std.specs.Bool.{then_some}
 use Rattle.std.specs.List.{slice_range}
-use Rattle.sheet.proofs.NumberLaws.{number_spells, digits_free}
+use Rattle.sheet.proofs.RunLaws.{all_free}
+use Rattle.sheet.proofs.NumberLaws.{number_spells}
 
 -- ---- digits
 
@@ -123,20 +124,13 @@ low : (b : ℕ) → b < 48 → is_hex_digit b ≡ false
 unfolding is_hex_digit is_digit
 low b h = rw (lt-leb 48 b h, lt-leb 65 b (omega arith))
 
-hex_free : (b : ℕ) (s : List ℕ) → is_hex_digit b ≡ false → all_hex_digits s ≡ true → index_of b s ≡ length s
-unfolding all_hex_digits index_of when◌then◌else◌
-hex_free b [] f e = refl
-hex_free b (x ∷ s) f e =
-    let w = and_true (is_hex_digit x) (all_hex_digits s) e in
-    rw (ne_eqb x b (λ g. false≢true (sym f ∙ ap is_hex_digit (sym g) ∙ w.0))) (ap suc (hex_free b s f w.1))
-
 pub word_free : (b : ℕ) (s : List ℕ) (n : ℕ) → b < 48 → word_of s ≡ Some n → index_of b s ≡ length s
 unfolding index_of is_digit when◌then◌else◌
 word_free b s n h e = go (word_is s n e)
   where
     go : WordIs s n → index_of b s ≡ length s
-    go (decimal d) = digits_free b s (rw (lt-leb 48 b h)) (number_spells s n d).0.digits
+    go (decimal d) = all_free is_digit b s (rw (lt-leb 48 b h)) (number_spells s n d).0.digits
     go (hex f d) =
         ap (index_of b) f
-        ∙ rw (ne_eqb 48 b (λ g. omega arith), ne_eqb 120 b (λ g. omega arith)) (ap suc (ap suc (hex_free b (drop 2 s) (low b h) d.digits)))
+        ∙ rw (ne_eqb 48 b (λ g. omega arith), ne_eqb 120 b (λ g. omega arith)) (ap suc (ap suc (all_free is_hex_digit b (drop 2 s) (low b h) d.digits)))
         ∙ sym (ap length f)

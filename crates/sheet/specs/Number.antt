@@ -1,7 +1,8 @@
 -- The number that a field says: the paper's "Numbers have no sign and, but for 0 itself, no leading zero", and of its refusal 5 "a field
 -- that is not a number up to 4,294,967,295". "All numbers are decimal."
-use Rattle.std.specs.Prelude.{ℕ, ◌+◌, ◌-◌, ◌*◌, Bool, true, ◌&&◌, ◌||◌, List, [], ◌∷◌, length, get_or, eqb, leb, ltb, Option, None}
+use Rattle.std.specs.Prelude.{ℕ, ◌+◌, ◌-◌, ◌*◌, Bool, ◌&&◌, ◌||◌, List, [], ◌∷◌, length, get_or, eqb, leb, ltb, Option, None}
 use Rattle.std.specs.Bool.{then_some}
+use Rattle.std.specs.List.{list_all}
 use Rattle.words.specs.Word.{when◌then◌else◌}
 
 -- The bytes 48 to 57 are the digits 0 to 9.
@@ -9,9 +10,8 @@ unfoldable pub is_digit : ℕ → Bool
 is_digit b = leb 48 b && leb b 57
 
 -- digits alone: no sign, nor any other byte
-unfoldable pub all_digits : List ℕ → Bool
-all_digits [] = true
-all_digits (b ∷ bs) = is_digit b && all_digits bs
+abbrev pub all_digits : List ℕ → Bool
+all_digits field = list_all is_digit field
 
 -- What digits say, read on from the value v of those before them
 unfoldable pub value_from : ℕ → List ℕ → ℕ

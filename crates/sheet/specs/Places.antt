@@ -17,10 +17,16 @@ is_at file at b = ltb at (length file) && eqb (get_or file at 0) b
 unfoldable pub is_digit_at : List ℕ → ℕ → Bool
 is_digit_at file at = ltb at (length file) && is_digit (get_or file at 0)
 
--- The decimal digits with which bytes begin, as many as there are
-unfoldable pub digit_run : List ℕ → List ℕ
-digit_run [] = []
-digit_run (b ∷ bs) = when is_digit b then b ∷ digit_run bs else []
+-- The bytes that pass a test with which bytes begin, as many as there are
+unfoldable pub run_of : (ℕ → Bool) → List ℕ → List ℕ
+run_of test [] = []
+run_of test (b ∷ bs) = when test b then b ∷ run_of test bs else []
+
+abbrev pub digit_run : List ℕ → List ℕ
+digit_run bytes = run_of is_digit bytes
+
+abbrev pub hex_run : List ℕ → List ℕ
+hex_run bytes = run_of is_hex_digit bytes
 
 -- The number with which the bytes from a place on begin, and the place after it. A 0 is read alone, so that none leads.
 unfoldable pub number_at : List ℕ → ℕ → Option (ℕ × ℕ)
@@ -33,12 +39,7 @@ number_at file at =
 unfoldable pub hex_digit_at : List ℕ → ℕ → Option ℕ
 hex_digit_at file at = then_some (ltb at (length file) && is_hex_digit (get_or file at 0)) (hex_digit (get_or file at 0))
 
--- The hexadecimal digits with which bytes begin, as many as there are
-unfoldable pub hex_run : List ℕ → List ℕ
-hex_run [] = []
-hex_run (b ∷ bs) = when is_hex_digit b then b ∷ hex_run bs else []
-
--- What those from a place on say, and the place after them, if they are as many as a word may have
+-- What the hexadecimal digits from a place on say, and the place after them, if they are as many as a word may have
 unfoldable pub hex_run_at : List ℕ → ℕ → Option (ℕ × ℕ)
 hex_run_at file at =
     let run = hex_run (drop at file) in

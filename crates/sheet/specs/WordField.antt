@@ -1,8 +1,9 @@
 -- The word that a field says: OPS_1 and OPS_2 of an M line, and the word of an I line. Other fields are numbers (Number.antt). Change request 4:
 -- wiring sheets print a word "with 0x and one to eight digits, capital letters only"; "Leading zeros are allowed after 0x." A field without 0x is a
 -- number, as it was before.
-use Rattle.std.specs.Prelude.{ℕ, zero, suc, ◌+◌, ◌-◌, ◌*◌, ◌/◌, ◌%◌, Bool, true, ◌&&◌, ◌||◌, List, [], ◌∷◌, ◌++◌, length, drop, get_or, eqb, leb, ltb, Option}
+use Rattle.std.specs.Prelude.{ℕ, zero, suc, ◌+◌, ◌-◌, ◌*◌, ◌/◌, ◌%◌, Bool, ◌&&◌, ◌||◌, List, [], ◌∷◌, ◌++◌, length, drop, get_or, eqb, leb, ltb, Option}
 use Rattle.std.specs.Bool.{then_some}
+use Rattle.std.specs.List.{list_all}
 use Rattle.words.specs.Word.{when◌then◌else◌}
 use Rattle.sheet.specs.Number.{is_digit, number_of}
 
@@ -14,9 +15,8 @@ unfoldable pub hex_digit : ℕ → ℕ
 hex_digit b = when is_digit b then b - 48 else b - 55
 
 -- such digits alone: no small letter, sign or any other byte
-unfoldable pub all_hex_digits : List ℕ → Bool
-all_hex_digits [] = true
-all_hex_digits (b ∷ bs) = is_hex_digit b && all_hex_digits bs
+abbrev pub all_hex_digits : List ℕ → Bool
+all_hex_digits digits = list_all is_hex_digit digits
 
 -- What hexadecimal digits say, read on from the value v of those before them
 unfoldable pub hex_from : ℕ → List ℕ → ℕ
