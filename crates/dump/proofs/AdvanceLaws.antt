@@ -1,14 +1,12 @@
 -- How the lines that were taken advance a recording. Assumes nothing.
-use Rattle.std.proofs.Common.{ℕ, ◌+◌, ◌-◌, ◌<◌, ◌≤◌, ◌≡◌, refl, sym, ap, ◌∙◌, true, List, [], ◌++◌, length, le-ltb, arith}
-use Rattle.std.specs.Prelude.{Some, None, min, take, drop, set, get_or}
+use Rattle.std.proofs.Common.{ℕ, ◌+◌, ◌-◌, ◌≤◌, ◌≡◌, refl, sym, ap, ◌∙◌, true, List, [], ◌++◌, length, le-ltb, arith}
+use Rattle.std.specs.Prelude.{Some, None, min, take, drop}
 use native.Mathlib.Nat.{min-le_right}
-use native.Mathlib.Numerals.{add-one}
-use lib.Seq.{take-set-lt, take_all}
+use lib.Seq.{take-set-lt, take_at, length-take-le}
 use Rattle.words.specs.Word.{when◌then◌else◌}
-use Rattle.rules.specs.Steps.{step}
-use Rattle.rules.specs.Refusals.{most_motors, period_ok, one_refusal, step_all, table_refusal, table_after, part_after}
+use Rattle.rules.specs.Refusals.{most_motors, period_ok, table_refusal, table_after, part_after}
 use Rattle.rules.specs.declared.Motor.{Motor}
-use Rattle.rules.proofs.Tables.{accepted as table-accepted, each_accepted, table_accepted, not_yet, one_more as table_more, length_part}
+use Rattle.rules.proofs.Tables.{length_after, length_part}
 use Rattle.totals.specs.Running.{capped}
 use Rattle.sheet.specs.declared.Request.{Request}
 use Rattle.sheet.specs.declared.Request.TheVariants.{Motor as M, Input as I, Scan as S, Refused}
@@ -16,7 +14,8 @@ use Rattle.sheet.specs.Grammar.{next_at}
 use Rattle.sheet.proofs.RequestLaws.{taken}
 use Rattle.report.specs.Puts.{Puts}
 use Rattle.report.specs.declared.page.Page.{Page}
-use Rattle.report.proofs.PutLaws.{puts_none}
+use Rattle.report.proofs.PutLaws.{puts_none, puts_then}
+use Rattle.vcd.specs.Text.{timed, changes_from}
 use Rattle.interpreter.specs.State.{State, next_number, with_motor, with_words, with_word, scan_refusal, with_scan, refusal_for, changed, state_after, view_of, held_of}
 use Rattle.interpreter.specs.Lines.{InputLines, InputRun, ReadyBench}
 use Rattle.interpreter.specs.Lines.InputLines.{none as no_line, one_more}
@@ -29,7 +28,7 @@ use Rattle.course.specs.Through.{Through}
 use Rattle.course.specs.Through.Through.{none, accepted, refused, ended}
 use Rattle.course.specs.Walk.{NoScan, Advance, Run}
 use Rattle.course.proofs.Runs.{run_quietly}
-use Rattle.dump.specs.Dump.{output_states}
+use Rattle.dump.specs.Dump.{signals_of}
 use Rattle.dump.specs.Advance.{Moment, moment, bench_at, moment_of, state_of, past_end, clock_after, moment_after, first_text, scan_text, added, dump_lines, dump_walk}
 use Rattle.dump.specs.declared.Recording.{Recording}
 use Rattle.dump.proofs.SignalLaws.{first_length, scan_length}
@@ -128,21 +127,6 @@ module _ {file : List ℕ} {s here : Recording} {page after : Page} {line : ℕ}
 
 -- ---- an S line
 
--- a scan that is accepted, motor by motor
-module _ (ms : List Motor) (ws : List ℕ) (period : ℕ) (h : table_refusal ms ws period ≡ 0) (i : ℕ) (l : i < length ms) where
-  pub word_there : i < length ws
-  word_there = omega (arith, l, (table-accepted ms ws period h).lengths)
-
-  module _ {ns : List Motor} (e : ns ≡ step_all ms (take i ws) period) where
-    pub turn_due : (d : Motor) → one_refusal (get_or ns i d) (get_or ws i 0) period ≡ 0
-    turn_due d = rw (e, not_yet ms ws period i d) (each_accepted ms ws period h i d l)
-
-    pub one_stepped : (d : Motor) {n : Motor} → n ≡ step (get_or ns i d) (get_or ws i 0) period → set ns i n ≡ step_all ms (take (i + 1) ws) period
-    one_stepped d f = rw (f, e, not_yet ms ws period i d, add-one i) (table_more ms ws period i d l word_there)
-
-pub all_stepped : (ms : List Motor) (ws : List ℕ) (period : ℕ) → table_refusal ms ws period ≡ 0 → (i : ℕ) → length ms ≤ i → step_all ms (take i ws) period ≡ table_after ms ws period
-all_stepped ms ws period h i l = rw (table_accepted ms ws period h, take_all i ws (omega (arith, l, (table-accepted ms ws period h).lengths)))
-
 -- of a bench that is ready every scan is accepted
 module _ (b : Bench) (is : length b.motors ≡ 32) (js : length b.words ≡ 32) (ready : ReadyBench b) (period : ℕ) (ok : period_ok period ≡ true) where
   scan_due : refusal_for (view_of b) (S period) ≡ 0
@@ -168,8 +152,22 @@ pub in_use_scanned : (b : Bench) (period : ℕ) {held : ℕ} {ms : List Motor} �
 unfolding part_after when◌then◌else◌
 in_use_scanned b period e f = rw (f, e, le-ltb most_motors (min b.count most_motors) (min-le_right _ most_motors))
 
-pub in_use_shown : (count : ℕ) (ms : List Motor) {held : ℕ} → length ms ≡ 32 → held ≡ min count most_motors → output_states (take held ms) ≡ output_states (take count ms)
-in_use_shown count ms is e = rw (e, ← take_used count ms is)
+-- what is put of them is put of the motors up to the bench's count
+module _ (b : Bench) (is : length b.motors ≡ 32) (period : ℕ) {held : ℕ} {ms : List Motor} (e : held ≡ min b.count most_motors)
+    (f : ms ≡ table_after (take held b.motors) (take held b.words) period) where
+  taken_after : take held (ms ++ drop held b.motors) ≡ ms
+  unfolding most_motors
+  taken_after =
+      take_at ms (drop held b.motors) held
+      (ap length f ∙ length_after (take held b.motors) (take held b.words) period ∙ length-take-le held b.motors (omega (arith, e, is, min-le_right b.count most_motors)))
+
+  pub in_use_put : (time : ℕ) {page mid after : Page} → Puts page (first_text b.scans (take held b.motors)) mid
+      → Puts mid (timed time (changes_from 0 (signals_of (take held b.motors)) (signals_of ms))) after
+      → Puts page (scan_text b.scans time (take b.count b.motors) (take b.count (ms ++ drop held b.motors))) after
+  unfolding scan_text
+  in_use_put time p k =
+      rw (take_used b.count b.motors is, take_used b.count (ms ++ drop held b.motors) (ap length (in_use_scanned b period e f) ∙ length_part b.motors _ b.words period ∙ is), ← e, taken_after)
+      (puts_then p k)
 
 module _ (s : Recording) (is : length s.bench.motors ≡ 32) (period : ℕ) {ms : List Motor}
     (e : ms ≡ part_after s.bench.motors (min s.bench.count most_motors) s.bench.words period) where

@@ -1,5 +1,6 @@
 pub mod SignalLaws
 pub mod DumpLaws
+pub mod ScanLaws
 pub mod AdvanceLaws
 pub mod Pieces
 pub mod Outputs

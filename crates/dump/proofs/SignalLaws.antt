@@ -1,11 +1,11 @@
 -- Laws of the signals of motors, one motor after another, by the states of their outputs. Assumes nothing.
-use Rattle.std.proofs.Common.{◌⊎◌, inl, inr, ℕ, suc, ◌+◌, ◌-◌, ◌*◌, ◌<◌, ◌≤◌, ◌≡◌, refl, sym, ap, ◌∙◌, Bool, true, false, List, [], ◌∷◌, ◌++◌, append_assoc, length, arith}
-use Rattle.std.specs.Prelude.{◌||◌, eqb, take, drop, set, get_or}
+use Rattle.std.proofs.Common.{ℕ, zero, suc, ◌+◌, ◌-◌, ◌*◌, ◌<◌, ◌≤◌, ◌≡◌, refl, sym, ap, Bool, true, false, List, [], ◌∷◌, ◌++◌, append_assoc, append-nil, length, arith}
+use Rattle.std.specs.Prelude.{Option, Some, None, eqb, drop, set, get_or}
 use Rattle.std.proofs.lemmas.Grind.{common_steps}
-use Rattle.std.specs.List.{zip, list_any}
+use Rattle.std.proofs.lemmas.List.{length-drop}
 use native.Mathlib.Numerals.{add-one}
-use lib.ListN.{length-append, length-map, get_or-map, drop_of_length-le}
-use lib.Seq.{take-suc, take-suc-set, take_all, drop-cons}
+use lib.ListN.{length-append, drop_of_length-le}
+use lib.Seq.{drop-cons}
 use borrow.Author.Tests.{eq-eqb, ne_eqb}
 use Rattle.words.specs.Word.{when◌then◌else◌}
 use Rattle.words.proofs.Laws.{either}
@@ -14,12 +14,12 @@ use Rattle.rules.specs.Record.{output_on, output_off}
 use Rattle.sheet.specs.Split.{joined}
 use Rattle.report.specs.Puts.{Puts}
 use Rattle.report.specs.declared.page.Page.{Page}
-use Rattle.report.proofs.PutLaws.{Completes, one_more, none_left}
-use Rattle.vcd.specs.Text.{opening_of, code_of, wires_from, on_name, off_name, wire_line, value_line, values_from, word_line, differs, change_line, changes_from, timed}
+use Rattle.report.proofs.PutLaws.{Completes, one_more, none_left, puts_then}
+use Rattle.vcd.specs.Text.{code_of, wires_from, on_name, off_name, wire_line, value_line, values_from, word_line, differs, change_line, changes_from, time_line, timed}
 use Rattle.vcd.proofs.TextLaws.{timed_length, opening_length}
-use Rattle.dump.specs.Dump.{output_state, output_states, state_signals, signals_of, opening}
+use Rattle.dump.specs.Dump.{motor_signals, signals_of, opening}
 use Rattle.dump.specs.Advance.{first_text, scan_text}
-use Rattle.dump.specs.Signals.{first_by, scan_by, motor_differs, Tells}
+use Rattle.dump.specs.Signals.{motor_differs, behind, still}
 
 -- ---- one motor more
 
@@ -28,11 +28,11 @@ two_more : {from here mid later : Page} {whole rest a b c : List ℕ} → Comple
     → Completes from whole later c
 two_more more e p k = one_more (one_more more e p) refl k
 
-abbrev pub on : ℕ → Bool
-on s = eqb s output_on
+abbrev pub on : Motor → Bool
+on m = eqb m.output.state output_on
 
-abbrev pub off : ℕ → Bool
-off s = eqb s output_off
+abbrev pub off : Motor → Bool
+off m = eqb m.output.state output_off
 
 pub wires_more : (i held : ℕ) → i < held → wires_from (2 * i) (i + 1) (held - i)
     ≡ wire_line (code_of (2 * i)) (on_name (i + 1)) ++ (wire_line (code_of (2 * i + 1)) (off_name (i + 1)) ++ wires_from (2 * (i + 1)) (i + 1 + 1) (held - (i + 1)))
@@ -42,25 +42,12 @@ wires_more i held h =
     let f : 2 * (i + 1) ≡ 2 * i + 2 = omega arith in
     rw (e, f, append_assoc (wire_line (code_of (2 * i)) (on_name (i + 1))) (wire_line (code_of (2 * i + 1)) (off_name (i + 1))) (wires_from (2 * i + 2) (i + 1 + 1) (held - (i + 1))))
 
-pub values_more : (i : ℕ) (ss : List ℕ) (d : ℕ) → i < length ss → values_from (2 * i) (state_signals (drop i ss))
-    ≡ value_line (code_of (2 * i)) (on (get_or ss i d)) ++ (value_line (code_of (2 * i + 1)) (off (get_or ss i d)) ++ values_from (2 * (i + 1)) (state_signals (drop (i + 1) ss)))
-unfolding values_from state_signals
-values_more i ss d h =
+pub values_more : (i : ℕ) (ms : List Motor) (d : Motor) → i < length ms → values_from (2 * i) (signals_of (drop i ms))
+    ≡ value_line (code_of (2 * i)) (on (get_or ms i d)) ++ (value_line (code_of (2 * i + 1)) (off (get_or ms i d)) ++ values_from (2 * (i + 1)) (signals_of (drop (i + 1) ms)))
+unfolding values_from signals_of
+values_more i ms d h =
     let f : 2 * (i + 1) ≡ 2 * i + 1 + 1 = omega arith in
-    rw (f, drop-cons ss i d h, add-one i)
-
-pub changes_more : (i s t : ℕ) (ss ts : List ℕ) → changes_from (2 * i) (state_signals (s ∷ ss)) (state_signals (t ∷ ts))
-    ≡ change_line (code_of (2 * i)) (on s) (on t) ++ (change_line (code_of (2 * i + 1)) (off s) (off t) ++ changes_from (2 * (i + 1)) (state_signals ss) (state_signals ts))
-unfolding changes_from state_signals
-changes_more i s t ss ts = let f : 2 * (i + 1) ≡ 2 * i + 1 + 1 = omega arith in rw f
-
--- where either ends no more change
-changes_over : (i : ℕ) (ss ts : List ℕ) → (length ss ≡ 0) ⊎ (length ts ≡ 0) → changes_from i (state_signals ss) (state_signals ts) ≡ []
-unfolding changes_from state_signals
-changes_over i [] ts h = refl
-changes_over i (s ∷ ss) [] h = refl
-changes_over i (s ∷ ss) (t ∷ ts) (inl h) = absurd (omega (arith, h))
-changes_over i (s ∷ ss) (t ∷ ts) (inr h) = absurd (omega (arith, h))
+    rw (f, drop-cons ms i d h, add-one i)
 
 -- ---- a motor's lines put, in the loops over the motors, and no motor left
 
@@ -69,98 +56,108 @@ module _ {from here mid later : Page} {whole : List ℕ} (i : ℕ) {c d : ℕ} (
       → Puts mid (wire_line (d ∷ []) (off_name (i + 1))) later → Completes from whole later (wires_from (2 * (i + 1)) (i + 1 + 1) (held - (i + 1)))
   wires_put held h more = two_more more (rw (wires_more i held h, e, f))
 
-  pub values_put : (ss : List ℕ) (x : ℕ) → i < length ss → Completes from whole here (values_from (2 * i) (state_signals (drop i ss)))
-      → Puts here (value_line (c ∷ []) (on (get_or ss i x))) mid → Puts mid (value_line (d ∷ []) (off (get_or ss i x))) later
-      → Completes from whole later (values_from (2 * (i + 1)) (state_signals (drop (i + 1) ss)))
-  values_put ss x h more = two_more more (rw (values_more i ss x h, e, f))
-
-  pub changes_put : {s t : ℕ} {us vs ss ts : List ℕ} → us ≡ s ∷ ss → vs ≡ t ∷ ts → Completes from whole here (changes_from (2 * i) (state_signals us) (state_signals vs))
-      → Puts here (change_line (c ∷ []) (on s) (on t)) mid → Puts mid (change_line (d ∷ []) (off s) (off t)) later
-      → Completes from whole later (changes_from (2 * (i + 1)) (state_signals ss) (state_signals ts))
-  changes_put {s = s} {t = t} {ss = ss} {ts = ts} h k more = two_more more (rw (h, k, changes_more i s t ss ts, e, f))
+  pub values_put : (ms : List Motor) (x : Motor) → i < length ms → Completes from whole here (values_from (2 * i) (signals_of (drop i ms)))
+      → Puts here (value_line (c ∷ []) (on (get_or ms i x))) mid → Puts mid (value_line (d ∷ []) (off (get_or ms i x))) later
+      → Completes from whole later (values_from (2 * (i + 1)) (signals_of (drop (i + 1) ms)))
+  values_put ms x h more = two_more more (rw (values_more i ms x h, e, f))
 
 module _ {from here : Page} {whole : List ℕ} (i j : ℕ) where
   pub wires_end : (held number : ℕ) → held ≤ i → Completes from whole here (wires_from j number (held - i)) → Puts from whole here
   unfolding wires_from
   wires_end held number h more = let none : held - i ≡ 0 = omega arith in none_left more (rw none)
 
-  pub values_end : (ss : List ℕ) → length ss ≤ i → Completes from whole here (values_from j (state_signals (drop i ss))) → Puts from whole here
-  unfolding values_from state_signals
-  values_end ss h more = none_left more (rw (drop_of_length-le ss {i = i} h))
+  pub values_end : (ms : List Motor) → length ms ≤ i → Completes from whole here (values_from j (signals_of (drop i ms))) → Puts from whole here
+  unfolding values_from signals_of
+  values_end ms h more = none_left more (rw (drop_of_length-le ms {i = i} h))
 
-  pub changes_end : (ss ts : List ℕ) → (length ss ≡ 0) ⊎ (length ts ≡ 0) → Completes from whole here (changes_from j (state_signals ss) (state_signals ts)) → Puts from whole here
-  changes_end ss ts h more = none_left more (changes_over j ss ts h)
-
--- ---- whether there are any
+-- ---- the changes of a scan, motor by motor
 
 no_cons : {b : ℕ} {l : List ℕ} → b ∷ l ≡ [] → ⊥
 no_cons = grind (arith, common_steps)
 
--- of two runs of lines
-tells_both : (l m : List ℕ) (a b : Bool) → Tells l a → Tells m b → Tells (l ++ m) (a || b)
-tells_both [] m true b h k = absurd (h refl)
-tells_both [] m false true h k = k
-tells_both [] m false false h k = k
-tells_both (x ∷ l) m true b h k = no_cons
-tells_both (x ∷ l) m false b h k = absurd (no_cons h)
+-- a motor that changes no signal puts no line, and another one does
+pub no_change : (i before after : ℕ) → motor_differs before after ≡ false → changes_from i (motor_signals before) (motor_signals after) ≡ []
+unfolding changes_from change_line motor_differs when◌then◌else◌
+no_change i before after h = grind (arith, common_steps)
 
-tells_change : (code : List ℕ) (v w : Bool) → Tells (change_line code v w) (differs v w)
-unfolding change_line value_line word_line joined when◌then◌else◌
-tells_change code v w = grind (arith, common_steps)
+pub a_change : (i before after : ℕ) → motor_differs before after ≡ true → changes_from i (motor_signals before) (motor_signals after) ≡ [] → ⊥
+unfolding changes_from change_line value_line word_line joined motor_differs when◌then◌else◌
+a_change i before after h = grind (arith, common_steps)
 
-pub tells_changes : (i : ℕ) (ss ts : List ℕ) → Tells (changes_from i (state_signals ss) (state_signals ts)) (list_any (λ (p : ℕ × ℕ). motor_differs p.0 p.1) (zip ss ts))
-unfolding changes_from state_signals motor_differs
-tells_changes i [] ts = refl
-tells_changes i (s ∷ ss) [] = refl
-tells_changes i (s ∷ ss) (t ∷ ts) =
-    let a = change_line (code_of i) (on s) (on t) in
-    let b = change_line (code_of (i + 1)) (off s) (off t) in
-    let c = changes_from (i + 1 + 1) (state_signals ss) (state_signals ts) in
-    rw (← append_assoc a b c)
-    (tells_both (a ++ b) c _ _ (tells_both a b _ _ (tells_change (code_of i) (on s) (on t)) (tells_change (code_of (i + 1)) (off s) (off t))) (tells_changes (i + 1 + 1) ss ts))
+-- a motor's two lines
+pub both_changes : {here mid later : Page} (i before after : ℕ) {c d : ℕ} → code_of (2 * i) ≡ c ∷ [] → code_of (2 * i + 1) ≡ d ∷ []
+    → Puts here (change_line (c ∷ []) (eqb before output_on) (eqb after output_on)) mid → Puts mid (change_line (d ∷ []) (eqb before output_off) (eqb after output_off)) later
+    → Puts here (changes_from (2 * i) (motor_signals before) (motor_signals after)) later
+unfolding changes_from
+both_changes i before after e f p k = rw (e, f, append-nil (change_line _ (eqb before output_off) (eqb after output_off))) (puts_then p k)
 
--- ---- the same by the motors
+-- where nothing changed
+pub changes_same : (i : ℕ) (vs : List Bool) → changes_from i vs vs ≡ []
+unfolding changes_from change_line differs when◌then◌else◌
+changes_same i [] = refl
+changes_same i (true ∷ vs) = changes_same (i + 1) vs
+changes_same i (false ∷ vs) = changes_same (i + 1) vs
 
-states_length : (ss : List ℕ) → length (state_signals ss) ≡ 2 * length ss
-unfolding state_signals
-states_length [] = refl
-states_length (s ∷ ss) = omega (arith, states_length ss)
+-- one motor more that is not what it was
+pub one_changed : (i k : ℕ) (ms ns : List Motor) (m d : Motor) → drop i ns ≡ drop i ms → i < length ms
+    → changes_from k (signals_of ms) (signals_of (set ns i m))
+    ≡ changes_from k (signals_of ms) (signals_of ns) ++ changes_from (k + 2 * i) (motor_signals (get_or ms i d).output.state) (motor_signals m.output.state)
+unfolding changes_from signals_of
+one_changed zero k [] ns m d e l = absurd (omega arith)
+one_changed zero k (a ∷ ms) ns m d e l =
+    let f : k + 2 * 0 ≡ k = omega arith in
+    rw (e, f, changes_same k (signals_of (a ∷ ms)), changes_same (k + 1 + 1) (signals_of ms)) refl
+one_changed (suc i) k [] ns m d e l = absurd (omega arith)
+one_changed (suc i) k (a ∷ ms) [] m d e l = absurd (omega (arith, ap length e, length-drop i ms))
+one_changed (suc i) k (a ∷ ms) (b ∷ ns) m d e l =
+    let f : k + 2 * suc i ≡ k + 1 + 1 + 2 * i = omega arith in
+    rw (f, one_changed i (k + 1 + 1) ms ns m d e (omega arith)) (simp append_assoc)
+
+-- no changes, or some, and the time that is due
+pub behind_none : (due : Option ℕ) → behind due [] ≡ []
+unfolding behind timed
+behind_none (Some time) = refl
+behind_none None = refl
+
+pub still_none : (due : Option ℕ) → still due [] ≡ due
+unfolding still
+still_none due = refl
+
+pub still_some : (due : Option ℕ) (changes : List ℕ) → (changes ≡ [] → ⊥) → still due changes ≡ None
+unfolding still
+still_some due [] h = absurd (h refl)
+still_some due (b ∷ bs) h = refl
+
+-- a time before changes and more changes
+pub behind_more : (due : Option ℕ) (a b : List ℕ) → behind due (a ++ b) ≡ behind due a ++ behind (still due a) b
+unfolding behind still timed
+behind_more (Some time) [] b = refl
+behind_more (Some time) (x ∷ a) b = sym (append_assoc (time_line time) (x ∷ a) b)
+behind_more None [] b = refl
+behind_more None (x ∷ a) b = refl
+
+pub still_more : (due : Option ℕ) (a b : List ℕ) → still due (a ++ b) ≡ still (still due a) b
+unfolding still
+still_more due [] b = refl
+still_more due (x ∷ a) [] = refl
+still_more due (x ∷ a) (y ∷ b) = refl
+
+-- ---- lengths
 
 pub signals_length : (ms : List Motor) → length (signals_of ms) ≡ 2 * length ms
 unfolding signals_of
-signals_length ms = states_length (output_states ms) ∙ rw (length-map ms output_state)
-
--- written one after another
-pub state_more : (ms : List Motor) (ss : List ℕ) (i : ℕ) (d : Motor) → i < length ms → length ms ≤ 32 → length ss ≡ 32 → take i ss ≡ take i (output_states ms)
-    → take (i + 1) (set ss i (get_or ms i d).output.state) ≡ take (i + 1) (output_states ms)
-state_more ms ss i d h few is e =
-    rw (add-one i)
-    (take-suc-set ss i (output_state (get_or ms i d)) (omega arith)
-    ∙ ap (λ (l : List ℕ). l ++ (output_state (get_or ms i d) ∷ [])) e
-    ∙ sym (take-suc (output_states ms) i (output_state d) (omega (arith, length-map ms output_state)) ∙ rw (get_or-map output_state ms i d)))
-
-pub all_states : (ms : List Motor) (ss : List ℕ) (i : ℕ) → i ≡ length ms → take i ss ≡ take i (output_states ms) → take (length ms) ss ≡ output_states ms
-all_states ms ss i f e = rw (← f) (e ∙ take_all i (output_states ms) (omega (arith, f, length-map ms output_state)))
-
-pub first_is : (scans : ℕ) (ms : List Motor) → first_by scans (length (output_states ms)) (output_states ms) ≡ first_text scans ms
-unfolding first_by first_text opening signals_of
-first_is scans ms = rw (length-map ms output_state)
-
-pub scan_is : (scans time : ℕ) (ms ns : List Motor) → scan_by scans time (length (output_states ms)) (output_states ms) (output_states ns) ≡ scan_text scans time ms ns
-unfolding scan_by scan_text signals_of
-scan_is scans time ms ns = rw (first_is scans ms)
+signals_length [] = refl
+signals_length (m ∷ ms) = omega (arith, signals_length ms)
 
 -- ---- header and #0, where no scan ran yet
 
-pub first_none_ran : (scans held : ℕ) (states : List ℕ) → scans ≡ 0 → first_by scans held states ≡ opening_of held (state_signals states)
-unfolding first_by when◌then◌else◌
-first_none_ran scans held states e = rw (eq-eqb scans 0 e)
+pub first_none_ran : (scans : ℕ) (ms : List Motor) → scans ≡ 0 → first_text scans ms ≡ opening ms
+unfolding first_text when◌then◌else◌
+first_none_ran scans ms e = rw (eq-eqb scans 0 e)
 
-pub first_some_ran : (scans held : ℕ) (states : List ℕ) → (scans ≡ 0 → ⊥) → first_by scans held states ≡ []
-unfolding first_by when◌then◌else◌
-first_some_ran scans held states h = rw (ne_eqb scans 0 h)
-
--- ---- lengths
+pub first_some_ran : (scans : ℕ) (ms : List Motor) → (scans ≡ 0 → ⊥) → first_text scans ms ≡ []
+unfolding first_text when◌then◌else◌
+first_some_ran scans ms h = rw (ne_eqb scans 0 h)
 
 pub first_length : (scans : ℕ) (ms : List Motor) → length ms ≤ 32 → length (first_text scans ms) ≤ 2429
 unfolding first_text opening

@@ -1,5 +1,5 @@
 -- The dump of a whole file, which is the meaning of the waveform program: change request 5.
-use Rattle.std.specs.Prelude.{ℕ, ◌+◌, Bool, true, false, not, ◌||◌, List, [], ◌∷◌, ◌++◌, map, eqb, length}
+use Rattle.std.specs.Prelude.{ℕ, ◌+◌, Bool, true, false, not, ◌||◌, List, [], ◌∷◌, ◌++◌, eqb, length}
 use Rattle.words.specs.Word.{when◌then◌else◌}
 use Rattle.rules.specs.declared.Motor.{Motor}
 use Rattle.rules.specs.Record.{output_on, output_off}
@@ -9,20 +9,14 @@ use Rattle.sheet.specs.Grammar.{requests_of}
 use Rattle.interpreter.specs.State.{State, empty_state, refusal_for, changed, too_long}
 use Rattle.vcd.specs.Text.{Sample, opening_of, recording_text}
 
--- The states of the motors' outputs
-abbrev pub output_state : Motor → ℕ
-output_state m = m.output.state
+-- The two outputs of a motor as signals, by the state of its output: On before Off
+abbrev pub motor_signals : ℕ → List Bool
+motor_signals state = eqb state output_on ∷ eqb state output_off ∷ []
 
-abbrev pub output_states : List Motor → List ℕ
-output_states ms = map output_state ms
-
--- The two outputs of each motor as signals, by number: On before Off
-unfoldable pub state_signals : List ℕ → List Bool
-state_signals [] = []
-state_signals (s ∷ ss) = eqb s output_on ∷ eqb s output_off ∷ state_signals ss
-
+-- Those of all motors, by number
 unfoldable pub signals_of : List Motor → List Bool
-signals_of ms = state_signals (output_states ms)
+signals_of [] = []
+signals_of (m ∷ ms) = motor_signals m.output.state ++ signals_of ms
 
 -- "the sum of the periods so far", after an accepted request
 unfoldable pub time_after : ℕ → Request → ℕ

@@ -1,16 +1,19 @@
 // Runs of I and S lines, which touch the words, the motors, the count of scans and the time.
-ghost use Rattle.std.specs.Prelude.{◌≡◌};
+ghost use Rattle.std.specs.Prelude.{◌≡◌, length};
 ghost use Rattle.rules.specs.Refusals.{one_refusal, table_refusal, table_after};
 ghost use Rattle.rules.specs.Steps.{step};
 ghost use Rattle.sheet.specs.declared.Request.TheVariants.{Scan as S};
-ghost use Rattle.interpreter.specs.State.{refusal_for, view_of};
+ghost use Rattle.report.specs.Puts.{Puts};
+ghost use Rattle.interpreter.specs.State.{refusal_for, view_of, held_of};
 ghost use Rattle.course.specs.Walk.{Scans};
+ghost use Rattle.vcd.specs.Text.{timed, changes_from};
+ghost use Rattle.dump.specs.Dump.{signals_of};
 ghost use Rattle.dump.specs.Advance.{dump_walk};
 
 use crate::Recording;
-use crate::signals::Outputs;
+use crate::signals::{put_changes, put_first};
 use course::Course;
-use interpreter::{Inputs, next_number, next_scan};
+use interpreter::{Bench, Inputs, next_number, next_scan};
 use report::Page;
 use rules::Motor;
 use status::switches::read;
@@ -31,51 +34,65 @@ fn step(m: &mut Motor, word: u32, period: u32)
     }
 }
 
-// A scan of the motors in use, which is accepted: each is scanned where it stands, since a bench is dear to copy. It is not `table::scan`, for
-// speed: that tests their range again, and takes a motor at rest through all steps.
-#[tactic(auto, using(crate::proofs::AdvanceLaws::word_there, rules::proofs::Tables::none_stepped, crate::proofs::AdvanceLaws::turn_due, crate::proofs::AdvanceLaws::one_stepped, crate::proofs::AdvanceLaws::all_stepped))]
-fn step_all(motors: &mut [Motor], words: &[u32], period: u32)
+// A scan of the motors in use, which is accepted: each is scanned where it stands, since a bench is dear to copy, and the signals that it
+// changed are put. It is not `table::scan`, for speed: that tests their range again, and takes a motor at rest through all steps.
+fn scan_all(motors: &mut [Motor], words: &[u32], period: u32, time: u32, page: &mut Page)
     requires { table_refusal motors.old words.now period ≡ 0 }
-    ensures { motors.new ≡ table_after motors.old words.now period }
+    ensures scanned { motors.new ≡ table_after motors.old words.now period }
+    ensures put { Puts page.old (timed time (changes_from 0 (signals_of motors.old) (signals_of motors.new))) page.new }
 {
+    let mut due = Some(time);
     // of records that are lent behind an adapter, as zip, nothing would be known afterwards
     for i in 0..motors.len() {
-        step(&mut motors[i], words[i], period);
+        let m = &mut motors[i];
+        let before = m.output.state;
+        step(m, words[i], period);
+        due = put_changes(page, due, i, before, m.output.state);
     }
+}
+
+// How many motors are in use. It takes the bench by value: then a proof is told the lengths of its arrays, which it is not behind a reference.
+#[tactic(auto, unfolding(rules::specs::Refusals::most_motors))]
+pub(crate) fn in_use(bench: Bench) -> usize
+    ensures held { result ≡ held_of bench }
+    ensures motors { length bench.motors ≡ 32 }
+    ensures words { length bench.words ≡ 32 }
+{
+    bench.held()
 }
 
 impl Recording {
     // The I and S lines from here on, up to the first line that is refused or of another kind, and as long as there is room. It is a function
-    // of its own beside the print's, which prints each motor as it is scanned: here all outputs are compared after a scan.
+    // of its own beside the print's, which prints each motor as it is scanned, and counts its totals: here what changed is put.
     #[tactic(auto, unfolding(rules::specs::Refusals::most_motors))]
     pub(crate) fn scan_lines(&mut self, file: &[u8], page: &mut Page)
         requires { refusal_for (view_of self.old.bench) (S 1) ≡ 0 }
         ensures { Scans dump_walk file.now self.old page.old self.new page.new }
     {
-        let held = self.bench.held();
+        let held = in_use(self.bench);
         // the lines' numbers are of no use to a dump
         let mut inputs = Inputs {
             words: self.bench.words,
             at: self.at,
             line: 0,
         };
-        let mut before = Outputs::of_bench(self.bench);
         while Recording::MOST_PUT <= page.room() {
             inputs.take(file, self.bench.count);
             let Some((period, next)) = next_scan(file, inputs.at) else {
                 break;
             };
-            step_all(
+            let time = totals::plus(self.time, period);
+            put_first(page, self.bench.scans, &self.bench.motors[..held]);
+            scan_all(
                 &mut self.bench.motors[..held],
                 &inputs.words[..held],
                 period,
+                time,
+                page,
             );
-            let after = Outputs::of(&self.bench.motors[..held]);
-            self.time = totals::plus(self.time, period);
-            after.put_scan(page, self.bench.scans, self.time, &before);
+            self.time = time;
             self.bench.scans = next_number(self.bench.scans);
             inputs.at = next;
-            before = after;
         }
         self.bench.words = inputs.words;
         self.at = inputs.at;
