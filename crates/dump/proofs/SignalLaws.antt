@@ -1,4 +1,4 @@
--- Laws of the signals of motors, one motor after another, by the states of their outputs. Assumes nothing.
+-- Laws of the signals of motors, one motor after another. Assumes nothing.
 use Rattle.std.proofs.Common.{ℕ, zero, suc, ◌+◌, ◌-◌, ◌*◌, ◌<◌, ◌≤◌, ◌≡◌, refl, sym, ap, Bool, true, false, List, [], ◌∷◌, ◌++◌, append_assoc, append-nil, length, arith}
 use Rattle.std.specs.Prelude.{Option, Some, None, eqb, drop, set, get_or}
 use Rattle.std.proofs.lemmas.Grind.{common_steps}
@@ -34,7 +34,7 @@ on m = eqb m.output.state output_on
 abbrev pub off : Motor → Bool
 off m = eqb m.output.state output_off
 
-pub wires_more : (i held : ℕ) → i < held → wires_from (2 * i) (i + 1) (held - i)
+wires_more : (i held : ℕ) → i < held → wires_from (2 * i) (i + 1) (held - i)
     ≡ wire_line (code_of (2 * i)) (on_name (i + 1)) ++ (wire_line (code_of (2 * i + 1)) (off_name (i + 1)) ++ wires_from (2 * (i + 1)) (i + 1 + 1) (held - (i + 1)))
 unfolding wires_from
 wires_more i held h =
@@ -42,7 +42,7 @@ wires_more i held h =
     let f : 2 * (i + 1) ≡ 2 * i + 2 = omega arith in
     rw (e, f, append_assoc (wire_line (code_of (2 * i)) (on_name (i + 1))) (wire_line (code_of (2 * i + 1)) (off_name (i + 1))) (wires_from (2 * i + 2) (i + 1 + 1) (held - (i + 1))))
 
-pub values_more : (i : ℕ) (ms : List Motor) (d : Motor) → i < length ms → values_from (2 * i) (signals_of (drop i ms))
+values_more : (i : ℕ) (ms : List Motor) (d : Motor) → i < length ms → values_from (2 * i) (signals_of (drop i ms))
     ≡ value_line (code_of (2 * i)) (on (get_or ms i d)) ++ (value_line (code_of (2 * i + 1)) (off (get_or ms i d)) ++ values_from (2 * (i + 1)) (signals_of (drop (i + 1) ms)))
 unfolding values_from signals_of
 values_more i ms d h =
@@ -71,9 +71,6 @@ module _ {from here : Page} {whole : List ℕ} (i j : ℕ) where
   values_end ms h more = none_left more (rw (drop_of_length-le ms {i = i} h))
 
 -- ---- the changes of a scan, motor by motor
-
-no_cons : {b : ℕ} {l : List ℕ} → b ∷ l ≡ [] → ⊥
-no_cons = grind (arith, common_steps)
 
 -- a motor that changes no signal puts no line, and another one does
 pub no_change : (i before after : ℕ) → motor_differs before after ≡ false → changes_from i (motor_signals before) (motor_signals after) ≡ []

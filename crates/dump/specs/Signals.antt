@@ -3,7 +3,7 @@ use Rattle.std.specs.Prelude.{ℕ, Bool, ◌||◌, Option, Some, None, List, [],
 use Rattle.rules.specs.Record.{output_on, output_off}
 use Rattle.vcd.specs.Text.{differs, timed}
 
--- A signal of a motor changed, by the states of its output.
+-- A signal of a motor changed, by the states of its output
 unfoldable pub motor_differs : ℕ → ℕ → Bool
 motor_differs before after = differs (eqb before output_on) (eqb after output_on) || differs (eqb before output_off) (eqb after output_off)
 

@@ -64,8 +64,8 @@ pub(crate) fn put_first(page: &mut Page, scans: u32, motors: &[Motor])
     }
 }
 
-// Whether a signal of a motor is not what it was, by the states of its output: states above 2, which a record that is lent may have, are
-// no output, and show no change.
+// Whether a signal of a motor is not what it was, by the states of its output: `before != after` alone would tell states above 2 apart, which
+// are no output.
 #[tactic(auto, unfolding(crate::specs::Signals::motor_differs, vcd::specs::Text::differs))]
 fn differ(before: u32, after: u32) -> bool
     ensures { result ≡ motor_differs before after }

@@ -1,8 +1,8 @@
 -- Laws of the lines of a dump. Assumes nothing.
 use Prim.Native.Nat.{ℕ, zero, suc, ◌+◌, ◌*◌, ◌≤◌}
-use mathlib.Core.Path.{◌≡◌, refl, sym, ap, ◌∙◌}
+use mathlib.Core.Path.{◌≡◌, refl, ap}
 use mathlib.Core.Bool.{Bool}
-use mathlib.Core.List.{List, [], ◌∷◌, ◌++◌, append_assoc, append-nil}
+use mathlib.Core.List.{List, [], ◌∷◌, ◌++◌, append_assoc}
 use native.Mathlib.Omega.{arith}
 use lib.ListN.{length, length-append}
 use Rattle.words.proofs.Laws.{either}
@@ -21,40 +21,6 @@ wire_start code number = joined blank (word_var ∷ word_wire ∷ word_one ∷ (
 pub wire_parts : (code number : ℕ) (end : List ℕ) → wire_line (code ∷ []) (109 ∷ decimal number ++ end) ≡ wire_start code number ++ (end ++ 32 ∷ word_end ++ 10 ∷ [])
 unfolding wire_line wire_start word_line joined
 wire_parts code number end = simp append_assoc
-
--- ---- one more
-
--- a motor's two wires
-abbrev pub both_wires : ℕ → ℕ → List ℕ
-both_wires i number = wire_line (code_of i) (on_name number) ++ wire_line (code_of (i + 1)) (off_name number)
-
-pub wires_last : (i number n : ℕ) → wires_from i number (suc n) ≡ wires_from i number n ++ both_wires (i + 2 * n) (number + n)
-unfolding wires_from
-wires_last i number zero =
-    let e : i + 2 * 0 ≡ i = omega arith in
-    let f : number + 0 ≡ number = omega arith in
-    rw (e, f) (append-nil (both_wires i number))
-wires_last i number (suc n) =
-    let e : i + 2 + 2 * n ≡ i + 2 * suc n = omega arith in
-    let f : number + 1 + n ≡ number + suc n = omega arith in
-    rw (← e, ← f) (ap (λ (l : List ℕ). both_wires i number ++ l) (wires_last (i + 2) (number + 1) n) ∙ sym (append_assoc (both_wires i number) (wires_from (i + 2) (number + 1) n) _))
-
-pub values_append : (i : ℕ) (vs ws : List Bool) → values_from i (vs ++ ws) ≡ values_from i vs ++ values_from (i + length vs) ws
-unfolding values_from
-values_append i [] ws = let e : i + 0 ≡ i = omega arith in rw e
-values_append i (v ∷ vs) ws =
-    let e : i + 1 + length vs ≡ i + suc (length vs) = omega arith in
-    rw (← e, values_append (i + 1) vs ws) (sym (append_assoc (value_line (code_of i) v) _ _))
-
-pub changes_append : (i : ℕ) (us vs xs ys : List Bool) → length us ≡ length vs
-    → changes_from i (us ++ xs) (vs ++ ys) ≡ changes_from i us vs ++ changes_from (i + length us) xs ys
-unfolding changes_from
-changes_append i [] [] xs ys h = let e : i + 0 ≡ i = omega arith in rw e
-changes_append i [] (v ∷ vs) xs ys h = absurd (omega arith)
-changes_append i (u ∷ us) [] xs ys h = absurd (omega arith)
-changes_append i (u ∷ us) (v ∷ vs) xs ys h =
-    let e : i + 1 + length us ≡ i + suc (length us) = omega arith in
-    rw (← e, changes_append (i + 1) us vs xs ys (omega arith)) (sym (append_assoc (change_line (code_of i) u v) _ _))
 
 -- ---- a time before changes
 
