@@ -161,13 +161,13 @@ module _ (b : Bench) (is : length b.motors ≡ 32) (period : ℕ) {held : ℕ} {
       take_at ms (drop held b.motors) held
       (ap length f ∙ length_after (take held b.motors) (take held b.words) period ∙ length-take-le held b.motors (omega (arith, e, is, min-le_right b.count most_motors)))
 
-  pub in_use_put : (time : ℕ) {page mid after : Page} → Puts page (first_text b.scans (take held b.motors)) mid
+  pub in_use_put : {time sum : ℕ} {page mid after : Page} → Puts page (first_text b.scans (take held b.motors)) mid → time ≡ sum
       → Puts mid (timed time (changes_from 0 (signals_of (take held b.motors)) (signals_of ms))) after
-      → Puts page (scan_text b.scans time (take b.count b.motors) (take b.count (ms ++ drop held b.motors))) after
+      → Puts page (scan_text b.scans sum (take b.count b.motors) (take b.count (ms ++ drop held b.motors))) after
   unfolding scan_text
-  in_use_put time p k =
-      rw (take_used b.count b.motors is, take_used b.count (ms ++ drop held b.motors) (ap length (in_use_scanned b period e f) ∙ length_part b.motors _ b.words period ∙ is), ← e, taken_after)
-      (puts_then p k)
+  in_use_put p t k =
+      let length_is = ap length (in_use_scanned b period e f) ∙ length_part b.motors _ b.words period ∙ is in
+      rw (take_used b.count b.motors is, take_used b.count (ms ++ drop held b.motors) length_is, ← e, taken_after, ← t) (puts_then p k)
 
 module _ (s : Recording) (is : length s.bench.motors ≡ 32) (period : ℕ) {ms : List Motor}
     (e : ms ≡ part_after s.bench.motors (min s.bench.count most_motors) s.bench.words period) where

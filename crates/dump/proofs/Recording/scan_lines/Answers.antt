@@ -43,7 +43,7 @@ loop-inputs-preserved c =
     let ks = same_size i.ensures.lines ∙ l.words in
     let e = in_use_scanned s.bench period l.held c.scan_all.ensures.scanned in
     let due = inputs_ready (after_inputs c.loop-inputs.self c.loop-inputs.inputs) l.ready i.ensures in
-    let put = in_use_put s.bench l.motors period l.held c.scan_all.ensures.scanned _ c.put_first.ensures (rw c.plus-time.ensures at c.scan_all.ensures.put) in
+    let put = in_use_put s.bench l.motors period l.held c.scan_all.ensures.scanned c.put_first.ensures c.plus-time.ensures c.scan_all.ensures.put in
     rw (c.next_number-self.ensures, c.plus-time.ensures) (record {
       motors = scanned_length s l.motors period e;
       words = ks;
