@@ -29,9 +29,9 @@ use Rattle.course.specs.Through.Through.{none, accepted, refused, ended}
 use Rattle.course.specs.Walk.{NoScan, Advance, Run}
 use Rattle.course.proofs.Runs.{run_quietly}
 use Rattle.dump.specs.Dump.{signals_of}
-use Rattle.dump.specs.Advance.{Moment, moment, bench_at, moment_of, state_of, past_end, clock_after, moment_after, first_text, scan_text, added, dump_lines, dump_walk}
+use Rattle.dump.specs.Advance.{Moment, moment, bench_at, moment_of, state_of, past_end, clock_after, moment_after, first_text, scan_text, added, dump_lines, most_put, dump_walk}
 use Rattle.dump.specs.declared.Recording.{Recording}
-use Rattle.dump.proofs.SignalLaws.{first_length, scan_length}
+use Rattle.dump.proofs.SignalLaws.{scan_length}
 
 -- ---- totals bear on no moment
 
@@ -60,14 +60,14 @@ quiet file s Refused next at h n = (refl, refl)
 
 -- the dump ends, at the end of the file or at a refused line
 module _ {file : List ℕ} {s t : Recording} {page after : Page} (put : Puts page (first_text s.bench.scans (moment_of s).motors) after)
-    (past : moment_of t ≡ past_end file (moment_of s)) (few : length (moment_of s).motors ≤ 32) where
+    (past : moment_of t ≡ past_end file (moment_of s)) (short : length (first_text s.bench.scans (moment_of s).motors) ≤ most_put) where
   ends : Through dump_lines file (moment_of s) (first_text s.bench.scans (moment_of s).motors) (past_end file (moment_of s)) → s.at ≤ length file → Advance dump_walk file s page t after
   ends through l =
       record {
         piece = first_text s.bench.scans (moment_of s).motors;
         through = rw past through;
         put = put;
-        short = omega (arith, first_length s.bench.scans (moment_of s).motors few);
+        short = short;
         further = omega (arith, ap (λ (p : Moment). p.at) past);
       }
 
@@ -161,13 +161,13 @@ module _ (b : Bench) (is : length b.motors ≡ 32) (period : ℕ) {held : ℕ} {
       take_at ms (drop held b.motors) held
       (ap length f ∙ length_after (take held b.motors) (take held b.words) period ∙ length-take-le held b.motors (omega (arith, e, is, min-le_right b.count most_motors)))
 
-  pub in_use_put : {time sum : ℕ} {page mid after : Page} → Puts page (first_text b.scans (take held b.motors)) mid → time ≡ sum
+  pub in_use_put : {time sum : ℕ} {page mid after : Page} → Puts page (first_text b.scans (take b.count b.motors)) mid → time ≡ sum
       → Puts mid (timed time (changes_from 0 (signals_of (take held b.motors)) (signals_of ms))) after
       → Puts page (scan_text b.scans sum (take b.count b.motors) (take b.count (ms ++ drop held b.motors))) after
   unfolding scan_text
   in_use_put p t k =
       let length_is = ap length (in_use_scanned b period e f) ∙ length_part b.motors _ b.words period ∙ is in
-      rw (take_used b.count b.motors is, take_used b.count (ms ++ drop held b.motors) length_is, ← e, taken_after, ← t) (puts_then p k)
+      rw (take_used b.count (ms ++ drop held b.motors) length_is, ← e, taken_after, ← t) (puts_then p (rw (e, ← take_used b.count b.motors is) at k))
 
 module _ (s : Recording) (is : length s.bench.motors ≡ 32) (period : ℕ) {ms : List Motor}
     (e : ms ≡ part_after s.bench.motors (min s.bench.count most_motors) s.bench.words period) where

@@ -5,8 +5,7 @@ ghost use Rattle.dump.specs.Advance.{most_put, first_text, moment_of, past_end, 
 ghost use Rattle.dump.specs.Laws.{dump_laws};
 
 use crate::Recording;
-use crate::scans::in_use;
-use crate::signals::put_first;
+use crate::signals::put_opening;
 use course::Course;
 use interpreter::{Bench, is_too_long};
 use report::Page;
@@ -62,16 +61,17 @@ impl Course for Recording {
 }
 
 impl Recording {
-    // The end of the dump: where no scan ran, header and #0 are put. `few` is for the proof of `line`, which is told no length of an array
+    // The end of the dump: where no scan ran, header and #0 are put. `short` is for the proof of `line`, which is told no length of an array
     // behind a reference.
-    #[tactic(auto, using(interpreter::proofs::ActLaws::take_used, crate::proofs::AdvanceLaws::few), unfolding(rules::specs::Refusals::most_motors))]
+    #[tactic(auto, using(crate::proofs::SignalLaws::first_none_ran, crate::proofs::SignalLaws::first_some_ran, crate::proofs::SignalLaws::first_length, report::proofs::PutLaws::puts_none))]
     fn finish(&mut self, file: &[u8], page: &mut Page)
         ensures put { Puts page.old (first_text self.old.bench.scans (moment_of self.old).motors) page.new }
         ensures past { moment_of self.new ≡ past_end file.now (moment_of self.old) }
-        ensures few { length (moment_of self.old).motors ≤ 32 }
+        ensures short { length (first_text self.old.bench.scans (moment_of self.old).motors) ≤ most_put }
     {
-        let held = in_use(self.bench);
-        put_first(page, self.bench.scans, &self.bench.motors[..held]);
+        if self.bench.scans == 0 {
+            put_opening(page, self.bench);
+        }
         self.at = file.len() + 1;
     }
 }

@@ -11,7 +11,7 @@ ghost use Rattle.dump.specs.Dump.{signals_of};
 ghost use Rattle.dump.specs.Advance.{dump_walk};
 
 use crate::Recording;
-use crate::signals::{put_changes, put_first};
+use crate::signals::{put_changes, put_opening};
 use course::Course;
 use interpreter::{Bench, Inputs, next_number, next_scan};
 use report::Page;
@@ -51,9 +51,9 @@ fn scan_all(motors: &mut [Motor], words: &[u32], period: u32, time: u32, page: &
     }
 }
 
-// How many motors are in use. It takes the bench by value: then a proof is told the lengths of its arrays, which it is not behind a reference.
+// How many motors are in use, by the bench as a value, for the lengths of its arrays.
 #[tactic(auto, unfolding(rules::specs::Refusals::most_motors))]
-pub(crate) fn in_use(bench: Bench) -> usize
+fn in_use(bench: Bench) -> usize
     ensures held { result ≡ held_of bench }
     ensures motors { length bench.motors ≡ 32 }
     ensures words { length bench.words ≡ 32 }
@@ -82,7 +82,10 @@ impl Recording {
                 break;
             };
             let time = totals::plus(self.time, period);
-            put_first(page, self.bench.scans, &self.bench.motors[..held]);
+            let is_first = self.bench.scans == 0;
+            if is_first {
+                put_opening(page, self.bench);
+            }
             scan_all(
                 &mut self.bench.motors[..held],
                 &inputs.words[..held],

@@ -1,13 +1,12 @@
 // What a dump has of the motors in use: their two outputs, On before Off, as signals by number.
-ghost use Rattle.std.specs.Prelude.{◌≡◌, ◌≤◌, ◌<◌, ◌*◌, [], ◌∷◌, length};
+ghost use Rattle.std.specs.Prelude.{◌≡◌, ◌≤◌, ◌<◌, ◌*◌, [], ◌∷◌, length, take};
 ghost use Rattle.report.specs.Puts.{Puts};
 ghost use Rattle.vcd.specs.Text.{code_of, wires_from, values_from, change_line, changes_from};
 ghost use Rattle.dump.specs.Dump.{motor_signals, signals_of, opening};
-ghost use Rattle.dump.specs.Advance.{first_text};
 ghost use Rattle.dump.specs.Signals.{motor_differs, behind, still};
 
+use interpreter::Bench;
 use report::Page;
-use rules::Motor;
 use vcd::{Wire, put_frame_end, put_frame_start, put_time, put_value, put_wire};
 
 // The code of a signal.
@@ -19,49 +18,39 @@ fn code(signal: usize) -> u8
     33 + signal as u8
 }
 
-#[tactic(auto, using(report::proofs::PutLaws::all_left, crate::proofs::SignalLaws::wires_put, crate::proofs::SignalLaws::wires_end))]
-fn put_wires(page: &mut Page, held: usize)
-    requires { held ≤ 32 }
-    ensures { Puts page.old (wires_from 0 1 held) page.new }
+// A bench is taken by value here: then a proof is told the lengths of its arrays, which it is not behind a reference.
+
+#[tactic(auto, using(report::proofs::PutLaws::all_left, interpreter::proofs::ActLaws::used, crate::proofs::SignalLaws::wires_put, crate::proofs::SignalLaws::wires_end), unfolding(rules::specs::Refusals::most_motors))]
+fn put_wires(page: &mut Page, bench: Bench)
+    ensures { Puts page.old (wires_from 0 1 (length (take bench.count bench.motors))) page.new }
 {
-    for i in 0..held {
+    for i in 0..bench.held() {
         put_wire(page, Wire::On, code(2 * i), i as u32 + 1);
         put_wire(page, Wire::Off, code(2 * i + 1), i as u32 + 1);
     }
 }
 
-#[tactic(auto, using(report::proofs::PutLaws::all_left, crate::proofs::SignalLaws::values_put, crate::proofs::SignalLaws::values_end))]
-fn put_values(page: &mut Page, motors: &[Motor])
-    requires { length motors.now ≤ 32 }
-    ensures { Puts page.old (values_from 0 (signals_of motors.now)) page.new }
+#[tactic(auto, using(report::proofs::PutLaws::all_left, interpreter::proofs::ActLaws::take_used, crate::proofs::SignalLaws::values_put, crate::proofs::SignalLaws::values_end), unfolding(rules::specs::Refusals::most_motors))]
+fn put_values(page: &mut Page, bench: Bench)
+    ensures { Puts page.old (values_from 0 (signals_of (take bench.count bench.motors))) page.new }
 {
-    for (i, m) in motors.iter().enumerate() {
+    for (i, m) in bench.motors[..bench.held()].iter().enumerate() {
         put_value(page, code(2 * i), m.output.state == 1);
         put_value(page, code(2 * i + 1), m.output.state == 2);
     }
 }
 
 // Header and #0.
-fn put_opening(page: &mut Page, motors: &[Motor])
-    requires { length motors.now ≤ 32 }
-    ensures { Puts page.old (opening motors.now) page.new }
+#[tactic(auto, using(crate::proofs::AdvanceLaws::few))]
+pub(crate) fn put_opening(page: &mut Page, bench: Bench)
+    ensures put { Puts page.old (opening (take bench.count bench.motors)) page.new }
+    ensures few { length (take bench.count bench.motors) ≤ 32 }
 {
     put_frame_start(page);
-    put_wires(page, motors.len());
+    put_wires(page, bench);
     put_frame_end(page);
     put_time(page, 0);
-    put_values(page, motors);
-}
-
-// Header and #0, if no scan ran yet.
-#[tactic(auto, using(crate::proofs::SignalLaws::first_none_ran, crate::proofs::SignalLaws::first_some_ran, report::proofs::PutLaws::puts_none))]
-pub(crate) fn put_first(page: &mut Page, scans: u32, motors: &[Motor])
-    requires { length motors.now ≤ 32 }
-    ensures { Puts page.old (first_text scans motors.now) page.new }
-{
-    if scans == 0 {
-        put_opening(page, motors);
-    }
+    put_values(page, bench);
 }
 
 // Whether a signal of a motor is not what it was, by the states of its output: `before != after` alone would tell states above 2 apart, which

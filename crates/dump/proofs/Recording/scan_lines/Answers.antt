@@ -1,12 +1,15 @@
 use Rattle.std.proofs.Common.{◌∙◌, arith}
-use lib.ListN.{length-take}
 use Rattle.sheet.proofs.RequestLaws.{taken}
 use Rattle.interpreter.proofs.LineLaws.{closer, same_size, onward, inside}
 use Rattle.interpreter.proofs.ScanLaws.{ready_if, no_scan}
+use Rattle.report.specs.Puts.{Puts}
+use Rattle.report.proofs.PutLaws.{puts_none}
 use Rattle.course.proofs.Runs.{nothing_yet, run_and_line, no_room, none_here}
+use Rattle.dump.specs.Advance.{moment_of, first_text}
+use Rattle.dump.proofs.SignalLaws.{first_none_ran, first_some_ran}
 use Rattle.dump.proofs.AdvanceLaws.{and_inputs, inputs_ready, after_inputs, in_use_due, in_use_scanned, in_use_put, scanned_length, scanned_ready, one_scan}
 use Rattle.dump.proofs.Recording.scan_lines.Goals as goal
-use Rattle.dump.proofs.Recording.scan_lines.Goals.{else-loop-inputs-test, then-loop-inputs-test+in_default}
+use Rattle.dump.proofs.Recording.scan_lines.Goals.{else-loop-inputs-test, then-loop-inputs-test+in_default, then-is_first, else-is_first}
 
 pub loop-inputs-init : goal.loop-inputs-init
 loop-inputs-init c =
@@ -20,9 +23,6 @@ loop-inputs-init c =
       run = nothing_yet;
       within = λ l. l;
     }
-
-pub put_first-requires : goal.put_first-requires
-put_first-requires c = omega (arith, length-take c.in_use-held.result c.loop-inputs.self.bench.motors, c.loop-inputs.invariant.motors)
 
 pub scan_all-requires : goal.scan_all-requires
 scan_all-requires c =
@@ -43,7 +43,12 @@ loop-inputs-preserved c =
     let ks = same_size i.ensures.lines ∙ l.words in
     let e = in_use_scanned s.bench period l.held c.scan_all.ensures.scanned in
     let due = inputs_ready (after_inputs c.loop-inputs.self c.loop-inputs.inputs) l.ready i.ensures in
-    let put = in_use_put s.bench l.motors period l.held c.scan_all.ensures.scanned c.put_first.ensures c.plus-time.ensures c.scan_all.ensures.put in
+    let first : Puts c.loop-inputs.page (first_text s.bench.scans (moment_of s).motors) c.if-is_first.page =
+    elim c.if-is_first.branch [
+      | then-is_first w ↦ rw (w.page-is, first_none_ran _ (moment_of s).motors w.if-is_first.true) w.put_opening.ensures.put
+      | else-is_first w ↦ rw (w.page-is, first_some_ran _ (moment_of s).motors w.if-is_first.false) puts_none
+    ] in
+    let put = in_use_put s.bench l.motors period l.held c.scan_all.ensures.scanned first c.plus-time.ensures c.scan_all.ensures.put in
     rw (c.next_number-self.ensures, c.plus-time.ensures) (record {
       motors = scanned_length s l.motors period e;
       words = ks;

@@ -3,7 +3,7 @@ use Rattle.report.proofs.PutLaws.{puts_then}
 use Rattle.dump.specs.Dump.{opening}
 use Rattle.dump.proofs.signals.put_opening.Goals as goal
 
-pub returns : goal.returns
+pub returns-clause-put : goal.returns-clause-put
 unfolding opening opening_of header_of
-returns c =
+returns-clause-put c =
     puts_then (puts_then (puts_then (puts_then c.put_frame_start.ensures c.put_wires.ensures) c.put_frame_end.ensures) c.put_time.ensures) c.put_values.ensures

@@ -9,9 +9,9 @@ returns-in-Ok c = goes_on c.act.new.self (sym c.next_request.ensures ∙ c.in-So
 pub returns-in-Err : goal.returns-in-Err
 returns-in-Err c =
     let f = rw c.in-Err.ensures.unchanged at c.finish.ensures in
-    stops f.put f.past f.few (sym c.next_request.ensures ∙ c.in-Some.is) (not_zero _ c.in-Err.ensures.refusal)
+    stops f.put f.past f.short (sym c.next_request.ensures ∙ c.in-Some.is) (not_zero _ c.in-Err.ensures.refusal)
 
 pub returns-in-None : goal.returns-in-None
 returns-in-None c =
     let f = c.finish-in-None.ensures in
-    at_end f.put f.past f.few c.requires.here (sym c.next_request.ensures ∙ c.in-None.is)
+    at_end f.put f.past f.short c.requires.here (sym c.next_request.ensures ∙ c.in-None.is)
