@@ -18,8 +18,8 @@ fn code(signal: usize) -> u8
     33 + signal as u8
 }
 
-// A bench is taken by value here: then a proof is told the lengths of its arrays, which it is not behind a reference.
-
+// Here and below a bench is taken by value: then a proof is told the lengths of its arrays, which it is not behind a reference. It is copied
+// once, as header and #0 are put.
 #[tactic(auto, using(report::proofs::PutLaws::all_left, interpreter::proofs::ActLaws::used, crate::proofs::SignalLaws::wires_put, crate::proofs::SignalLaws::wires_end), unfolding(rules::specs::Refusals::most_motors))]
 fn put_wires(page: &mut Page, bench: Bench)
     ensures { Puts page.old (wires_from 0 1 (length (take bench.count bench.motors))) page.new }
