@@ -1,7 +1,7 @@
 -- Laws of the signals of motors, one motor after another. Assumes nothing.
 use Rattle.std.proofs.Common.{ℕ, zero, suc, ◌+◌, ◌-◌, ◌*◌, ◌<◌, ◌≤◌, ◌≡◌, refl, sym, ap, Bool, true, false, List, [], ◌∷◌, ◌++◌, append_assoc, append-nil, length, arith}
+use Rattle.std.specs.Bool.{beq}
 use Rattle.std.specs.Prelude.{Option, Some, None, eqb, drop, set, get_or}
-use Rattle.std.proofs.lemmas.Grind.{common_steps}
 use Rattle.std.proofs.lemmas.List.{length-drop}
 use native.Mathlib.Numerals.{add-one}
 use lib.ListN.{length-append, drop_of_length-le}
@@ -14,12 +14,12 @@ use Rattle.rules.specs.Record.{output_on, output_off}
 use Rattle.sheet.specs.Split.{joined}
 use Rattle.report.specs.Puts.{Puts}
 use Rattle.report.specs.declared.page.Page.{Page}
-use Rattle.report.proofs.PutLaws.{Completes, one_more, none_left, puts_then}
+use Rattle.report.proofs.PutLaws.{Completes, one_more, none_left}
 use Rattle.vcd.specs.Text.{code_of, wires_from, on_name, off_name, wire_line, value_line, values_from, word_line, differs, change_line, changes_from, time_line, timed}
 use Rattle.vcd.proofs.TextLaws.{timed_length, opening_length}
 use Rattle.dump.specs.Dump.{motor_signals, signals_of, opening}
 use Rattle.dump.specs.Advance.{first_text, scan_text}
-use Rattle.dump.specs.Signals.{motor_differs, behind, still}
+use Rattle.dump.specs.Signals.{timed_by, due_after}
 
 -- ---- one motor more
 
@@ -70,23 +70,16 @@ module _ {from here : Page} {whole : List ℕ} (i j : ℕ) where
   unfolding values_from signals_of
   values_end ms h more = none_left more (rw (drop_of_length-le ms {i = i} h))
 
--- ---- the changes of a scan, motor by motor
+-- ---- the changes of a scan
 
--- a motor that changes no signal puts no line, and another one does
-pub no_change : (i before after : ℕ) → motor_differs before after ≡ false → changes_from i (motor_signals before) (motor_signals after) ≡ []
-unfolding changes_from change_line motor_differs when◌then◌else◌
-no_change i before after h = grind (arith, common_steps)
+-- a line of a signal that changed, behind the time that is due
+pub changed_line : (code : List ℕ) (v w : Bool) → beq v w ≡ false → change_line code v w ≡ value_line code w
+unfolding change_line differs when◌then◌else◌
+changed_line code v w h = rw h refl
 
-pub a_change : (i before after : ℕ) → motor_differs before after ≡ true → changes_from i (motor_signals before) (motor_signals after) ≡ [] → ⊥
-unfolding changes_from change_line value_line word_line joined motor_differs when◌then◌else◌
-a_change i before after h = grind (arith, common_steps)
-
--- a motor's two lines
-pub both_changes : {here mid later : Page} (i before after : ℕ) {c d : ℕ} → code_of (2 * i) ≡ c ∷ [] → code_of (2 * i + 1) ≡ d ∷ []
-    → Puts here (change_line (c ∷ []) (eqb before output_on) (eqb after output_on)) mid → Puts mid (change_line (d ∷ []) (eqb before output_off) (eqb after output_off)) later
-    → Puts here (changes_from (2 * i) (motor_signals before) (motor_signals after)) later
-unfolding changes_from
-both_changes i before after e f p k = rw (e, f, append-nil (change_line _ (eqb before output_off) (eqb after output_off))) (puts_then p k)
+pub line_timed : (time : ℕ) (code : List ℕ) (v : Bool) → timed time (value_line code v) ≡ time_line time ++ value_line code v
+unfolding timed value_line word_line joined
+line_timed time code v = refl
 
 -- where nothing changed
 pub changes_same : (i : ℕ) (vs : List Bool) → changes_from i vs vs ≡ []
@@ -110,34 +103,36 @@ one_changed (suc i) k (a ∷ ms) (b ∷ ns) m d e l =
     let f : k + 2 * suc i ≡ k + 1 + 1 + 2 * i = omega arith in
     rw (f, one_changed i (k + 1 + 1) ms ns m d e (omega arith)) (simp append_assoc)
 
--- no changes, or some, and the time that is due
-pub behind_none : (due : Option ℕ) → behind due [] ≡ []
-unfolding behind timed
-behind_none (Some time) = refl
-behind_none None = refl
-
-pub still_none : (due : Option ℕ) → still due [] ≡ due
-unfolding still
-still_none due = refl
-
-pub still_some : (due : Option ℕ) (changes : List ℕ) → (changes ≡ [] → ⊥) → still due changes ≡ None
-unfolding still
-still_some due [] h = absurd (h refl)
-still_some due (b ∷ bs) h = refl
-
 -- a time before changes and more changes
-pub behind_more : (due : Option ℕ) (a b : List ℕ) → behind due (a ++ b) ≡ behind due a ++ behind (still due a) b
-unfolding behind still timed
-behind_more (Some time) [] b = refl
-behind_more (Some time) (x ∷ a) b = sym (append_assoc (time_line time) (x ∷ a) b)
-behind_more None [] b = refl
-behind_more None (x ∷ a) b = refl
+pub timed_by_none : (due : Option ℕ) → timed_by due [] ≡ []
+unfolding timed_by timed
+timed_by_none (Some time) = refl
+timed_by_none None = refl
 
-pub still_more : (due : Option ℕ) (a b : List ℕ) → still due (a ++ b) ≡ still (still due a) b
-unfolding still
-still_more due [] b = refl
-still_more due (x ∷ a) [] = refl
-still_more due (x ∷ a) (y ∷ b) = refl
+pub timed_by_more : (due : Option ℕ) (a b : List ℕ) → timed_by due (a ++ b) ≡ timed_by due a ++ timed_by (due_after due a) b
+unfolding timed_by due_after timed
+timed_by_more (Some time) [] b = refl
+timed_by_more (Some time) (x ∷ a) b = sym (append_assoc (time_line time) (x ∷ a) b)
+timed_by_more None [] b = refl
+timed_by_more None (x ∷ a) b = refl
+
+pub due_after_none : (due : Option ℕ) → due_after due [] ≡ due
+unfolding due_after
+due_after_none due = refl
+
+pub due_after_more : (due : Option ℕ) (a b : List ℕ) → due_after due (a ++ b) ≡ due_after (due_after due a) b
+unfolding due_after
+due_after_more due [] b = refl
+due_after_more due (x ∷ a) [] = refl
+due_after_more due (x ∷ a) (y ∷ b) = refl
+
+-- a motor's two lines
+pub both_changes : (i before after : ℕ) {c d : ℕ} → code_of (2 * i) ≡ c ∷ [] → code_of (2 * i + 1) ≡ d ∷ [] → changes_from (2 * i) (motor_signals before) (motor_signals after)
+    ≡ change_line (c ∷ []) (eqb before output_on) (eqb after output_on) ++ change_line (d ∷ []) (eqb before output_off) (eqb after output_off)
+unfolding changes_from
+both_changes i before after {c} {d} e f =
+    let last = change_line (d ∷ []) (eqb before output_off) (eqb after output_off) in
+    rw (e, f, append-nil last) refl
 
 -- ---- lengths
 

@@ -38,13 +38,13 @@ samples_from time t [] = []
 samples_from time t (r ∷ rs) =
     when eqb (refusal_for t r) 0 then sample_of (time_after time r) (changed t r) r ++ samples_from (time_after time r) (changed t r) rs else []
 
--- The motors of which header and #0 speak: those "before the first scan, or at the end, also one at a refused line, if none runs"
 unfoldable pub is_scan : Request → Bool
 is_scan (M number ops1 ops2 w u) = false
 is_scan (I number word) = false
 is_scan (S period) = true
 is_scan Refused = false
 
+-- The motors of which header and #0 speak: those "before the first scan, or at the end, also one at a refused line, if none runs"
 unfoldable pub motors_before_scans : State → List Request → List Motor
 motors_before_scans t [] = t.motors
 motors_before_scans t (r ∷ rs) = when is_scan r || not (eqb (refusal_for t r) 0) then t.motors else motors_before_scans (changed t r) rs

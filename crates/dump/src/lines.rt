@@ -70,7 +70,7 @@ impl Recording {
         ensures short { length (first_text self.old.bench.scans (moment_of self.old).motors) ≤ most_put }
     {
         if self.bench.scans == 0 {
-            put_opening(page, self.bench);
+            put_opening(page, &self.bench);
         }
         self.at = file.len() + 1;
     }

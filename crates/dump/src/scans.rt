@@ -34,8 +34,8 @@ fn step(m: &mut Motor, word: u32, period: u32)
     }
 }
 
-// A scan of the motors in use, which is accepted: each is scanned where it stands, since a bench is dear to copy, and what the scan changed of
-// it is put. It is not `table::scan`, for speed: that tests their range again, and takes a motor at rest through all steps.
+// A scan of the motors in use, which is accepted: each is scanned where it stands, since handing on the records copies them, and what the scan
+// changed of it is put. It is not `table::scan`, for speed: that tests their range again, and takes a motor at rest through all steps.
 fn scan_all(motors: &mut [Motor], words: &[u32], period: u32, time: u32, page: &mut Page)
     requires { table_refusal motors.old words.now period ≡ 0 }
     ensures scanned { motors.new ≡ table_after motors.old words.now period }
@@ -51,7 +51,7 @@ fn scan_all(motors: &mut [Motor], words: &[u32], period: u32, time: u32, page: &
     }
 }
 
-// How many motors are in use. It takes the bench by value, for the lengths of its arrays (see `put_wires`).
+// How many motors are in use, by the bench as a value (see `put_wires`).
 #[tactic(auto, unfolding(rules::specs::Refusals::most_motors))]
 fn in_use(bench: Bench) -> usize
     ensures held { result ≡ held_of bench }
@@ -84,7 +84,7 @@ impl Recording {
             let time = totals::plus(self.time, period);
             let is_first = self.bench.scans == 0;
             if is_first {
-                put_opening(page, self.bench);
+                put_opening(page, &self.bench);
             }
             scan_all(
                 &mut self.bench.motors[..held],

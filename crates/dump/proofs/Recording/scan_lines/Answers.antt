@@ -42,7 +42,7 @@ loop-inputs-preserved c =
     let s = after_inputs c.loop-inputs.self i.new.self in
     let ks = same_size i.ensures.lines ∙ l.words in
     let e = in_use_scanned s.bench period l.held c.scan_all.ensures.scanned in
-    let due = inputs_ready (after_inputs c.loop-inputs.self c.loop-inputs.inputs) l.ready i.ensures in
+    let ready = inputs_ready (after_inputs c.loop-inputs.self c.loop-inputs.inputs) l.ready i.ensures in
     let first : Puts c.loop-inputs.page (first_text s.bench.scans (moment_of s).motors) c.if-is_first.page =
     elim c.if-is_first.branch [
       | then-is_first w ↦ rw (w.page-is, first_none_ran _ (moment_of s).motors w.if-is_first.true) w.put_opening.ensures.put
@@ -53,8 +53,8 @@ loop-inputs-preserved c =
       motors = scanned_length s l.motors period e;
       words = ks;
       held = l.held;
-      ready = scanned_ready s l.motors period e ks c.in-Some.next due found.1;
-      run = run_and_line (and_inputs l.run i.new.self l.motors i.ensures) (omega (arith, c.loop-inputs-test.true, c.room.ensures)) (one_scan s l.motors period e ks c.in-Some.next due found.1 found.0 put);
+      ready = scanned_ready s l.motors period e ks c.in-Some.next ready found.1;
+      run = run_and_line (and_inputs l.run i.new.self l.motors i.ensures) (omega (arith, c.loop-inputs-test.true, c.room.ensures)) (one_scan s l.motors period e ks c.in-Some.next ready found.1 found.0 put);
       within = λ m. (taken _ _ _ _ found.0).within;
     })
 

@@ -1,5 +1,5 @@
 use Rattle.std.proofs.Common.{arith}
-use Rattle.dump.proofs.ScanLaws.{none_scanned, among, word_there, turn_due, one_scanned, all_scanned, scan_put}
+use Rattle.dump.proofs.ScanLaws.{none_scanned, among, word_there, turn_due, one_scanned, all_scanned}
 use Rattle.dump.proofs.scans.scan_all.Goals as goal
 
 pub loop-i-init : goal.loop-i-init
@@ -22,4 +22,4 @@ pub returns-clause-scanned : goal.returns-clause-scanned
 returns-clause-scanned c = all_scanned c.requires c.loop-i.invariant (omega (arith, c.loop-i-test.false))
 
 pub returns-clause-put : goal.returns-clause-put
-returns-clause-put c = scan_put c.loop-i.invariant
+returns-clause-put c = c.loop-i.invariant.put

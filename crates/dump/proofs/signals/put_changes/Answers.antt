@@ -1,29 +1,23 @@
-use Rattle.std.proofs.Common.{◌*◌, sym, ◌∙◌}
+use Rattle.std.proofs.Common.{◌*◌, sym}
 use Rattle.report.proofs.PutLaws.{puts_none, puts_then}
-use Rattle.vcd.proofs.TextLaws.{timed_some}
-use Rattle.dump.specs.Signals.{behind}
-use Rattle.dump.proofs.SignalLaws.{no_change, a_change, both_changes, behind_none, still_none, still_some}
+use Rattle.dump.specs.Dump.{motor_signals}
+use Rattle.dump.proofs.SignalLaws.{changes_same, both_changes, timed_by_none, timed_by_more, due_after_none, due_after_more}
 use Rattle.dump.proofs.signals.put_changes.Goals as goal
-use Rattle.dump.proofs.signals.put_changes.Goals.{in-Some, in_default}
 
-pub returns-then-not-differ-clause-put : goal.returns-then-not-differ-clause-put
-returns-then-not-differ-clause-put c =
-    rw (no_change (2 * c.args.i) c.args.before c.args.after (sym c.differ.ensures ∙ c.if-not-differ.true), behind_none c.args.due) puts_none
+pub returns-then-before-after-clause-put : goal.returns-then-before-after-clause-put
+returns-then-before-after-clause-put c =
+    rw (c.if-before-after.true, changes_same (2 * c.args.i) (motor_signals c.args.after), timed_by_none c.args.due) puts_none
 
-pub returns-then-not-differ-clause-due : goal.returns-then-not-differ-clause-due
-returns-then-not-differ-clause-due c =
-    rw (no_change (2 * c.args.i) c.args.before c.args.after (sym c.differ.ensures ∙ c.if-not-differ.true)) (sym (still_none c.args.due))
+pub returns-then-before-after-clause-due : goal.returns-then-before-after-clause-due
+returns-then-before-after-clause-due c =
+    rw (c.if-before-after.true, changes_same (2 * c.args.i) (motor_signals c.args.after)) (sym (due_after_none c.args.due))
 
 pub returns-clause-put : goal.returns-clause-put
-unfolding behind
 returns-clause-put c =
-    let put = both_changes c.args.i c.args.before c.args.after c.code.ensures c.code-2.ensures c.put_change.ensures c.put_change-2.ensures in
-    elim c.match-due.branch [
-      | in-Some w ↦
-          rw (w.in-Some.is, timed_some w.in-Some.time _ (a_change (2 * c.args.i) c.args.before c.args.after (sym c.differ.ensures ∙ c.if-not-differ.false)))
-          (puts_then w.put_time.ensures (rw w.page-is at put))
-      | in_default w ↦ rw w.in_default.is (rw w.page-is at put)
-    ]
+    let on = c.put_change-due.ensures in
+    rw (both_changes c.args.i c.args.before c.args.after c.code.ensures c.code-2.ensures, timed_by_more c.args.due _ _) (puts_then on.put (rw on.due at c.put_change.ensures.put))
 
 pub returns-clause-due : goal.returns-clause-due
-returns-clause-due c = sym (still_some c.args.due _ (a_change (2 * c.args.i) c.args.before c.args.after (sym c.differ.ensures ∙ c.if-not-differ.false)))
+returns-clause-due c =
+    let on = c.put_change-due.ensures in
+    rw (both_changes c.args.i c.args.before c.args.after c.code.ensures c.code-2.ensures, due_after_more c.args.due _ _) (rw on.due at c.put_change.ensures.due)
