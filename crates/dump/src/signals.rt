@@ -7,7 +7,7 @@ ghost use Rattle.dump.specs.Signals.{timed_by, due_after};
 
 use interpreter::Bench;
 use report::Page;
-use vcd::{Wire, put_frame_end, put_frame_start, put_time, put_value, put_wire};
+use vcd::{Output, put_frame_end, put_frame_start, put_time, put_value, put_wire};
 
 // The code of a signal.
 #[tactic(auto, unfolding(vcd::specs::Text::code_of))]
@@ -25,8 +25,8 @@ fn put_wires(page: &mut Page, bench: Bench)
     ensures few { length (take bench.count bench.motors) ≤ 32 }
 {
     for i in 0..bench.held() {
-        put_wire(page, Wire::On, code(2 * i), i as u32 + 1);
-        put_wire(page, Wire::Off, code(2 * i + 1), i as u32 + 1);
+        put_wire(page, Output::On, code(2 * i), i as u32 + 1);
+        put_wire(page, Output::Off, code(2 * i + 1), i as u32 + 1);
     }
 }
 

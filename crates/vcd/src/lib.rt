@@ -12,7 +12,7 @@ use sheet::LF;
 
 // The two outputs of a motor.
 #[derive(Clone, Copy, Debug, PartialEq, Eq)]
-pub enum Wire {
+pub enum Output {
     On,
     Off,
 }
@@ -33,16 +33,16 @@ pub fn put_frame_end(page: &mut Page)
 }
 
 // The wire of an output of the motor of this number.
-pub fn put_wire(page: &mut Page, wire: Wire, code: u8, number: u32)
-    ensures { Puts page.old (wire_line (code ∷ []) (name_of wire number)) page.new }
+pub fn put_wire(page: &mut Page, output: Output, code: u8, number: u32)
+    ensures { Puts page.old (wire_line (code ∷ []) (name_of output number)) page.new }
 {
     page.text(b"$var wire 1 ");
     page.byte(code);
     page.text(b" m");
     page.number(number);
-    match wire {
-        Wire::On => page.text(b"on $end\n"),
-        Wire::Off => page.text(b"off $end\n"),
+    match output {
+        Output::On => page.text(b"on $end\n"),
+        Output::Off => page.text(b"off $end\n"),
     }
 }
 
