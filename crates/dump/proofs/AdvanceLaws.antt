@@ -2,7 +2,7 @@
 use Rattle.std.proofs.Common.{ℕ, ◌+◌, ◌-◌, ◌≤◌, ◌≡◌, refl, sym, ap, ◌∙◌, true, List, [], ◌++◌, length, le-ltb, arith}
 use Rattle.std.specs.Prelude.{Some, None, min, take, drop}
 use native.Mathlib.Nat.{min-le_right}
-use lib.Seq.{take-set-lt, take_at, length-take-le}
+use lib.Seq.{take-set-lt}
 use Rattle.words.specs.Word.{when◌then◌else◌}
 use Rattle.rules.specs.Refusals.{most_motors, period_ok, table_refusal, table_after, part_after}
 use Rattle.rules.specs.declared.Motor.{Motor}
@@ -21,7 +21,7 @@ use Rattle.interpreter.specs.Lines.{InputLines, InputRun, ReadyBench}
 use Rattle.interpreter.specs.Lines.InputLines.{none as no_line, one_more}
 use Rattle.interpreter.specs.declared.Bench.{Bench}
 use Rattle.interpreter.specs.declared.lines.Inputs.{Inputs}
-use Rattle.interpreter.proofs.ActLaws.{accepted as is-changed, input_there, used, take_used, scan_code, scan_refusal_lem, scan_motors}
+use Rattle.interpreter.proofs.ActLaws.{accepted as is-changed, input_there, used, take_used, in_use_again, scan_code, scan_refusal_lem, scan_motors}
 use Rattle.interpreter.proofs.LineLaws.{onward, words_right}
 use Rattle.interpreter.proofs.ScanLaws.{all_due, range_kept}
 use Rattle.course.specs.Through.{Through}
@@ -153,21 +153,14 @@ unfolding part_after when◌then◌else◌
 in_use_scanned b period e f = rw (f, e, le-ltb most_motors (min b.count most_motors) (min-le_right _ most_motors))
 
 -- what is put of them is put of the motors up to the bench's count
-module _ (b : Bench) (is : length b.motors ≡ 32) (period : ℕ) {held : ℕ} {ms : List Motor} (e : held ≡ min b.count most_motors)
-    (f : ms ≡ table_after (take held b.motors) (take held b.words) period) where
-  taken_after : take held (ms ++ drop held b.motors) ≡ ms
-  unfolding most_motors
-  taken_after =
-      take_at ms (drop held b.motors) held
-      (ap length f ∙ length_after (take held b.motors) (take held b.words) period ∙ length-take-le held b.motors (omega (arith, e, is, min-le_right b.count most_motors)))
-
-  pub in_use_put : {time sum : ℕ} {page mid after : Page} → Puts page (first_text b.scans (take b.count b.motors)) mid → time ≡ sum
-      → Puts mid (timed time (changes_from 0 (signals_of (take held b.motors)) (signals_of ms))) after
-      → Puts page (scan_text b.scans sum (take b.count b.motors) (take b.count (ms ++ drop held b.motors))) after
-  unfolding scan_text
-  in_use_put p t k =
-      let length_is = ap length (in_use_scanned b period e f) ∙ length_part b.motors _ b.words period ∙ is in
-      rw (take_used b.count (ms ++ drop held b.motors) length_is, ← e, taken_after, ← t) (puts_then p (rw (e, ← take_used b.count b.motors is) at k))
+pub in_use_put : (b : Bench) → length b.motors ≡ 32 → (period : ℕ) {held : ℕ} {ms : List Motor} → held ≡ min b.count most_motors
+    → ms ≡ table_after (take held b.motors) (take held b.words) period → {time sum : ℕ} {page mid after : Page}
+    → Puts page (first_text b.scans (take b.count b.motors)) mid → time ≡ sum → Puts mid (timed time (changes_from 0 (signals_of (take held b.motors)) (signals_of ms))) after
+    → Puts page (scan_text b.scans sum (take b.count b.motors) (take b.count (ms ++ drop held b.motors))) after
+unfolding scan_text
+in_use_put b is period {held} {ms} e f p t k =
+    let again = in_use_again b.count b.motors is ms e (ap length f ∙ length_after (take held b.motors) (take held b.words) period) in
+    rw (again, ← t) (puts_then p (rw (e, ← take_used b.count b.motors is) at k))
 
 module _ (s : Recording) (is : length s.bench.motors ≡ 32) (period : ℕ) {ms : List Motor}
     (e : ms ≡ part_after s.bench.motors (min s.bench.count most_motors) s.bench.words period) where

@@ -11,10 +11,10 @@ use Rattle.report.specs.Puts.{Puts}
 use Rattle.report.specs.declared.page.Page.{Page}
 use Rattle.report.proofs.PutLaws.{puts_none, puts_then}
 use Rattle.vcd.specs.Text.{timed, changes_from}
-use Rattle.vcd.proofs.TextLaws.{timed_none}
+use Rattle.vcd.proofs.TextLaws.{changes_same, timed_none}
 use Rattle.dump.specs.Dump.{motor_signals, signals_of}
 use Rattle.dump.specs.Signals.{timed_by, due_after}
-use Rattle.dump.proofs.SignalLaws.{changes_same, one_changed, timed_by_more, due_after_none, due_after_more}
+use Rattle.dump.proofs.SignalLaws.{one_changed, timed_by_more, due_after_none, due_after_more}
 
 -- The first i motors are scanned, and what changed of them is put.
 pub record Scanned (ms : List Motor) (ws : List ℕ) (period time : ℕ) (from : Page) (i : ℕ) (ns : List Motor) (due : Option ℕ) (here : Page) : Type 0 where

@@ -1,6 +1,5 @@
 -- Laws of the signals of motors, one motor after another. Assumes nothing.
-use Rattle.std.proofs.Common.{ℕ, zero, suc, ◌+◌, ◌-◌, ◌*◌, ◌<◌, ◌≤◌, ◌≡◌, refl, sym, ap, Bool, true, false, List, [], ◌∷◌, ◌++◌, append_assoc, append-nil, length, arith}
-use Rattle.std.specs.Bool.{beq}
+use Rattle.std.proofs.Common.{ℕ, zero, suc, ◌+◌, ◌-◌, ◌*◌, ◌<◌, ◌≤◌, ◌≡◌, refl, sym, ap, Bool, List, [], ◌∷◌, ◌++◌, append_assoc, append-nil, length, arith}
 use Rattle.std.specs.Prelude.{Option, Some, None, eqb, drop, set, get_or}
 use Rattle.std.proofs.lemmas.List.{length-drop}
 use native.Mathlib.Numerals.{add-one}
@@ -11,12 +10,11 @@ use Rattle.words.specs.Word.{when◌then◌else◌}
 use Rattle.words.proofs.Laws.{either}
 use Rattle.rules.specs.declared.Motor.{Motor}
 use Rattle.rules.specs.Record.{output_on, output_off}
-use Rattle.sheet.specs.Split.{joined}
 use Rattle.report.specs.Puts.{Puts}
 use Rattle.report.specs.declared.page.Page.{Page}
 use Rattle.report.proofs.PutLaws.{Completes, one_more, none_left}
-use Rattle.vcd.specs.Text.{code_of, wires_from, on_name, off_name, wire_line, value_line, values_from, word_line, differs, change_line, changes_from, time_line, timed}
-use Rattle.vcd.proofs.TextLaws.{timed_length, opening_length}
+use Rattle.vcd.specs.Text.{code_of, wires_from, on_name, off_name, wire_line, value_line, values_from, change_line, changes_from, time_line, timed}
+use Rattle.vcd.proofs.TextLaws.{changes_same, timed_length, opening_length}
 use Rattle.dump.specs.Dump.{motor_signals, signals_of, opening}
 use Rattle.dump.specs.Advance.{first_text, scan_text}
 use Rattle.dump.specs.Signals.{timed_by, due_after}
@@ -71,22 +69,6 @@ module _ {from here : Page} {whole : List ℕ} (i j : ℕ) where
   values_end ms h more = none_left more (rw (drop_of_length-le ms {i = i} h))
 
 -- ---- the changes of a scan
-
--- a line of a signal that changed, behind the time that is due
-pub changed_line : (code : List ℕ) (v w : Bool) → beq v w ≡ false → change_line code v w ≡ value_line code w
-unfolding change_line differs when◌then◌else◌
-changed_line code v w h = rw h refl
-
-pub line_timed : (time : ℕ) (code : List ℕ) (v : Bool) → timed time (value_line code v) ≡ time_line time ++ value_line code v
-unfolding timed value_line word_line joined
-line_timed time code v = refl
-
--- where nothing changed
-pub changes_same : (i : ℕ) (vs : List Bool) → changes_from i vs vs ≡ []
-unfolding changes_from change_line differs when◌then◌else◌
-changes_same i [] = refl
-changes_same i (true ∷ vs) = changes_same (i + 1) vs
-changes_same i (false ∷ vs) = changes_same (i + 1) vs
 
 -- one motor more that is not what it was
 pub one_changed : (i k : ℕ) (ms ns : List Motor) (m d : Motor) → drop i ns ≡ drop i ms → i < length ms

@@ -80,7 +80,7 @@ pub(crate) fn put_changes(
     ensures put { Puts page.old (timed_by due (changes_from (2 * i) (motor_signals before) (motor_signals after))) page.new }
     ensures due { result ≡ due_after due (changes_from (2 * i) (motor_signals before) (motor_signals after)) }
 {
-    // mostly so, and told fastest
+    // most motors change nothing, and this one test tells
     if before == after {
         return due;
     }

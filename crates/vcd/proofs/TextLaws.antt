@@ -1,10 +1,12 @@
 -- Laws of the lines of a dump. Assumes nothing.
 use Prim.Native.Nat.{ℕ, zero, suc, ◌+◌, ◌*◌, ◌≤◌}
 use mathlib.Core.Path.{◌≡◌, refl, ap}
-use mathlib.Core.Bool.{Bool}
+use mathlib.Core.Bool.{Bool, true, false}
+use Rattle.std.specs.Bool.{beq}
 use mathlib.Core.List.{List, [], ◌∷◌, ◌++◌, append_assoc}
 use native.Mathlib.Omega.{arith}
 use lib.ListN.{length, length-append}
+use Rattle.words.specs.Word.{when◌then◌else◌}
 use Rattle.words.proofs.Laws.{either}
 use Rattle.sheet.specs.Split.{joined}
 use Rattle.report.specs.Print.{decimal}
@@ -22,9 +24,26 @@ pub wire_parts : (code number : ℕ) (end : List ℕ) → wire_line (code ∷ []
 unfolding wire_line wire_start word_line joined
 wire_parts code number end = simp append_assoc
 
--- ---- a time before changes
+-- ---- changes, and a time before them
 
-pub timed_some : (time : ℕ) (changes : List ℕ) → (changes ≡ [] → ⊥) → timed time changes ≡ time_line time ++ changes
+-- a signal that changed
+pub changed_line : (code : List ℕ) (v w : Bool) → beq v w ≡ false → change_line code v w ≡ value_line code w
+unfolding change_line differs when◌then◌else◌
+changed_line code v w h = rw h refl
+
+-- signals of which none changed
+pub changes_same : (i : ℕ) (vs : List Bool) → changes_from i vs vs ≡ []
+unfolding changes_from change_line differs when◌then◌else◌
+changes_same i [] = refl
+changes_same i (true ∷ vs) = changes_same (i + 1) vs
+changes_same i (false ∷ vs) = changes_same (i + 1) vs
+
+-- a line behind a time
+pub line_timed : (time : ℕ) (code : List ℕ) (v : Bool) → timed time (value_line code v) ≡ time_line time ++ value_line code v
+unfolding timed value_line word_line joined
+line_timed time code v = refl
+
+timed_some : (time : ℕ) (changes : List ℕ) → (changes ≡ [] → ⊥) → timed time changes ≡ time_line time ++ changes
 unfolding timed
 timed_some time [] h = absurd (h refl)
 timed_some time (b ∷ bs) h = refl

@@ -1,7 +1,7 @@
 use Rattle.std.proofs.Common.{◌∷◌, []}
 use Rattle.report.proofs.PutLaws.{puts_then}
 use Rattle.dump.specs.Signals.{timed_by}
-use Rattle.dump.proofs.SignalLaws.{changed_line, line_timed}
+use Rattle.vcd.proofs.TextLaws.{changed_line, line_timed}
 use Rattle.dump.proofs.signals.put_change.Goals as goal
 use Rattle.dump.proofs.signals.put_change.Goals.{in-Some, in_default}
 

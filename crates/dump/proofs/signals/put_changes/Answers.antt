@@ -1,7 +1,8 @@
 use Rattle.std.proofs.Common.{◌*◌, sym}
 use Rattle.report.proofs.PutLaws.{puts_none, puts_then}
 use Rattle.dump.specs.Dump.{motor_signals}
-use Rattle.dump.proofs.SignalLaws.{changes_same, both_changes, timed_by_none, timed_by_more, due_after_none, due_after_more}
+use Rattle.vcd.proofs.TextLaws.{changes_same}
+use Rattle.dump.proofs.SignalLaws.{both_changes, timed_by_none, timed_by_more, due_after_none, due_after_more}
 use Rattle.dump.proofs.signals.put_changes.Goals as goal
 
 pub returns-then-before-after-clause-put : goal.returns-then-before-after-clause-put
