@@ -18,7 +18,7 @@ use Rattle.book.specs.Log.{Log, none, ◌▸◌}
 use Rattle.book.specs.History.{single, other_single, result_of, after, input_of, takes_in, counts, record_after, history}
 use Rattle.book.specs.Run.{Order, all, one, nobody, scanned, table_run, entry_at, entries_at, Followed}
 use Rattle.book.proofs.Record.{taken_is}
-use Rattle.book.proofs.Theorem.{demand3}
+use Rattle.book.proofs.Theorem.{claimed}
 
 length_scanned : (t : List Motor) (o : Order) → length (scanned t o) ≡ length t
 unfolding scanned
@@ -60,7 +60,7 @@ run_at t j s h f (os ▸ o) =
     ∙ ap (λ (m : Motor). after m (entry_at j (table_run t os) o)) (run_at t j s h f os)
 
 pub followed : (t : List Motor) (j : ℕ) (s : Settings) → j < length t → get_or t j nobody ≡ fresh s → (os : Log Order) → Followed t j s os
-followed t j s h f os = record { same = run_at t j s h f os; claim = demand3 s (entries_at j t os) }
+followed t j s h f os = record { same = run_at t j s h f os; claim = claimed s (entries_at j t os) }
 
 -- an accepted scan of the table is entered in the history of each motor, with its own word
 module _ (t : List Motor) (j : ℕ) (s : Settings) (h : j < length t) (f : get_or t j nobody ≡ fresh s) (os : Log Order) (words : List ℕ) (period : ℕ) (ok : table_refusal (table_run t os) words period ≡ 0) where

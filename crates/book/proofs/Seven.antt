@@ -1,5 +1,5 @@
--- The bounds of the claim are not empty: a chain of seven occurs, six times the sum of W and the longest period would be too little, and
--- commands end in each of the three ways. By computation. Assumes nothing.
+-- The bounds of the claim are met: a chain of seven occurs, a bound with six for seven would be too little, and commands end in each of
+-- the three ways. By computation. Assumes nothing.
 use Prim.Native.Nat.{ℕ, zero, suc, ◌*◌, ◌+◌}
 use mathlib.Core.Path.{◌≡◌, refl}
 use mathlib.Core.Bool.{true}

@@ -1,4 +1,4 @@
--- Demand 3, for all settings and all lists of entries. Assumes nothing.
+-- The claim on a motor, for all settings and all lists of entries. Assumes nothing.
 use mathlib.Core.Path.{◌≡◌, ap, ◌∙◌}
 use mathlib.Core.Bool.{false, ◌&&◌}
 use Rattle.rules.specs.declared.Settings.{Settings}
@@ -10,7 +10,7 @@ use Rattle.rules.proofs.Flags.{closed_flag}
 use Rattle.book.specs.Log.{Log, ◌▸◌}
 use Rattle.book.specs.History.{Entry, record_after, history, record_of}
 use Rattle.book.specs.Book.{since, book_of}
-use Rattle.book.specs.Claim.{Demand3}
+use Rattle.book.specs.Claim.{MotorClaim}
 use Rattle.book.proofs.Record.{record_is, taken_is, refused_is, independent_is}
 use Rattle.book.proofs.Book.{book_held}
 use Rattle.book.proofs.Ends.{stays_is, ends_is}
@@ -29,8 +29,8 @@ closed_flag_is s es h x p =
     let e : record_after s es ≡ step (record_of s h) x.word x.period = record_is s es ∙ ap (record_of s) p in
     rw e (rw (book_held s h).settings_is at (closed_flag (record_of s h) x.word x.period))
 
-pub demand3 : (s : Settings) (es : Log Entry) → Demand3 s es
-demand3 s es =
+pub claimed : (s : Settings) (es : Log Entry) → MotorClaim s es
+claimed s es =
     record {
       record_is = record_is s es;
       book_is = ap (λ (m : Motor). m.status) (record_is s es) ∙ (book_held s (history s es)).status_is;

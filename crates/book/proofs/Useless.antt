@@ -1,5 +1,5 @@
--- Blocks that the claim shuts out: one that ends each command in its first scan, one that says overdue before W, and one with an invented
--- sum. Each differs from the book, or from the time since the issue, which demand 3 says the record has. Assumes nothing.
+-- What the claim's book, and its time since the issue, leave no room for: a command that ends for no cause in the scan after its issue, an
+-- end overdue before the periods come to W, and a time sum other than theirs. Of records, not of blocks. Assumes nothing.
 use Prim.Native.Nat.{ℕ, ◌≤◌, ◌<◌}
 use mathlib.Core.Path.{◌≡◌, refl, sym, ◌∙◌}
 use mathlib.Core.Logic.{◌≢◌}
@@ -14,7 +14,7 @@ use Rattle.rules.specs.Scans.{Input}
 use Rattle.book.specs.Log.{Log, ◌▸◌, count}
 use Rattle.book.specs.History.{Entry, record_after, history}
 use Rattle.book.specs.Book.{since, is_up, book_of}
-use Rattle.book.specs.Claim.{UnderWay, Issued, chosen_in, fate, Demand3}
+use Rattle.book.specs.Claim.{UnderWay, Issued, chosen_in, fate, MotorClaim}
 use Rattle.book.proofs.Book.{none_since, one_since}
 use Rattle.book.proofs.Ends.{three, goes_on, ends_of}
 
@@ -34,6 +34,6 @@ unfolding fate is_up when◌then◌else◌
 not_overdue_early s c i h x u e = leb-true _ _ (three (confirms (reading s x.word) c) _ (displaces (chosen_in s h x) c) (sym (ends_of s h x c i u).end ∙ e)).1
 
 -- The sum of a command under way is none but the time since its issue.
-pub not_invented : (s : Settings) (es : Log Entry) (n : ℕ) → Demand3 s es → idle (record_after s es).status ≡ false
+pub not_invented : (s : Settings) (es : Log Entry) (n : ℕ) → MotorClaim s es → idle (record_after s es).status ≡ false
     → n ≢ since (book_of s (history s es)).issue (history s es) → (record_after s es).sum ≢ n
 not_invented s es n d live ne e = ne (sym e ∙ d.time_is live)

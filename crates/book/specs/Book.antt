@@ -1,4 +1,4 @@
--- The book of commands, kept from settings and history alone: no sums, no output. Its time is added up from the periods of the history.
+-- The book of commands: rules 5.3 and 5.4. Its time is added up from the periods of the history.
 use Rattle.std.specs.Prelude.{ℕ, ◌+◌, Bool, eqb, leb, ltb}
 use Rattle.words.specs.Word.{when◌then◌else◌}
 use Rattle.rules.specs.declared.Settings.{Settings}
@@ -8,8 +8,7 @@ use Rattle.rules.specs.Steps.{issued, status1to6, status7to10}
 use Rattle.rules.specs.Scans.{Input}
 use Rattle.book.specs.Log.{Log, none, ◌▸◌, count}
 
--- It holds the command under way, end, mode, last sure position, position, flags and previous word, and the number of the scan that issued
--- the command.
+-- A status, which has no sums and no output, and the number of the scan that issued the command under way
 pub record Book : Type 0 where
   pub status : Status
   pub issue : ℕ
@@ -27,7 +26,7 @@ is_up s i h = leb s.w (since i h)
 unfoldable pub book1to6 : Settings → Book → Log Input → ℕ → Status
 book1to6 s b h word = status1to6 s b.status word (is_up s b.issue h)
 
--- Steps 7 to 10: the command issued is entered with the number of this scan.
+-- Steps 7 to 10: a command that is issued gets the number of this scan.
 unfoldable pub book_scan : Settings → Book → Log Input → ℕ → Book
 book_scan s b h word =
     let v = book1to6 s b h word in
@@ -36,7 +35,7 @@ book_scan s b h word =
       issue = when eqb (issued s v word) no_command then b.issue else count h;
     }
 
--- It begins like a fresh record, and each scan in the history goes so.
+-- From a fresh status on, scan by scan
 unfoldable pub book_of : Settings → Log Input → Book
 book_of s none = record { status = fresh_status; issue = 0 }
 book_of s (h ▸ x) = book_scan s (book_of s h) (h ▸ x) x.word

@@ -1,4 +1,4 @@
--- Demand 3: what is claimed of a list of scans, for a motor that starts fresh and that nothing but these scans writes.
+-- What is claimed of a motor that starts fresh and that nothing but the scans of a list writes: rules 5.5 to 6.5, one claim about the whole list.
 use Rattle.std.specs.Prelude.{ℕ, suc, ◌+◌, ◌*◌, ◌≤◌, max, ◌≡◌, ◌↔◌, ◌≢◌, ◌⊎◌, true, false, ◌&&◌}
 use Rattle.words.specs.Word.{when◌then◌else◌, is_set}
 use Rattle.rules.specs.declared.Settings.{Settings}
@@ -9,7 +9,7 @@ use Rattle.book.specs.Log.{Log, none, ◌▸◌, ◌⧺◌, count}
 use Rattle.book.specs.History.{Entry, input_of, counts, record_after, history, record_of}
 use Rattle.book.specs.Book.{since, is_up, book1to6, book_of}
 
--- A command is issued, under way or ended as the book has it: after h the command c, issued in scan i, is under way.
+-- After h the command c, issued in scan i, is under way: so the book has it.
 pub record UnderWay (s : Settings) (c i : ℕ) (h : Log Input) : Type 0 where
   pub command : (book_of s h).status.command ≡ c
   pub issue : (book_of s h).issue ≡ i
@@ -23,8 +23,7 @@ Issued s c h = UnderWay s c (count h) h
 unfoldable pub chosen_in : Settings → Log Input → Input → ℕ
 chosen_in s h x = chosen s (book1to6 s (book_of s h) (h ▸ x) x.word) x.word
 
--- What the scan x after h does to the command c issued in scan i: the switches confirm it; otherwise its monitoring time is up; otherwise
--- the chosen command displaces it, if step 8 lets it; otherwise nothing.
+-- What the scan x after h does to the command c issued in scan i: the end that it brings, or none (rule 6.1)
 unfoldable pub fate : Settings → ℕ → ℕ → Log Input → Input → ℕ
 fate s c i h x =
     when confirms (reading s x.word) c then end_confirmed
@@ -45,8 +44,8 @@ pub record Ends (s : Settings) (c i f : ℕ) (h : Log Input) (x : Input) : Type 
   pub next : f ≡ end_displaced → Issued s (chosen_in s h x) (h ▸ x)
   pub gone : f ≢ no_end → ¬ (UnderWay s c i (h ▸ x))
 
--- A chain is a command and those that displace it one after another. After the scans k that follow h, the chain that began with c₀,
--- issued by the last scan of h, has n commands, and its last, c, issued in scan i, is under way.
+-- A chain, rule 6.3: after the scans k that follow h, the one that began with c₀, issued by the last scan of h, has n commands, and its
+-- last, c, issued in scan i, is under way.
 pub data Chain (s : Settings) (c₀ : ℕ) (h : Log Input) : Log Input → ℕ → ℕ → ℕ → Type 0 where
   first : Issued s c₀ h → Chain s c₀ h none c₀ (count h) 1
   waits : {k : Log Input} {c i n : ℕ} (x : Input) → Chain s c₀ h k c i n → fate s c i (h ⧺ k) x ≡ no_end → Chain s c₀ h (k ▸ x) c i n
@@ -69,8 +68,8 @@ most_in_chain = 7
 abbrev pub bound : Settings → Log Input → ℕ
 bound s k = most_in_chain * (s.w + longest k)
 
--- Of the scans k after h: the chain's last command has ended in one of them, confirmed, or overdue with its flag set in that scan; and up
--- to that end the periods add up to at most n.
+-- The chain is over, rule 6.4: one of the scans k after h ended its last command, as confirmed or as overdue (`ends` has its flag), and
+-- the periods up to that scan come to n at most.
 pub record Over (s : Settings) (c₀ : ℕ) (h k : Log Input) (n : ℕ) : Type 0 where
   pub early : Log Input
   pub at : Input
@@ -85,34 +84,34 @@ pub record Over (s : Settings) (c₀ : ℕ) (h k : Log Input) (n : ℕ) : Type 0
   pub soon : total (early ▸ at) ≤ n
 
 -- The claim, after the entries es, for any settings and any entries.
-pub record Demand3 (s : Settings) (es : Log Entry) : Type 0 where
-  -- the record is what the ten steps make of a fresh one over the history, output and sums included
+pub record MotorClaim (s : Settings) (es : Log Entry) : Type 0 where
+  -- rule 5.5: the ten steps over the history make this very record, with its output and sums
   pub record_is : record_after s es ≡ record_of s (history s es)
-  -- and has the command, end, mode, both positions, flags and previous word of its book
+  -- its status is the book's
   pub book_is : (record_after s es).status ≡ (book_of s (history s es)).status
-  -- the sum of a command under way is the time since its issue, added up from the history
+  -- its time sum is what the periods since the issue come to, while a command is under way
   pub time_is : idle (record_after s es).status ≡ false
       → (record_after s es).sum ≡ since (book_of s (history s es)).issue (history s es)
-  -- after a scan flag 14 stands exactly if flag 1 does and that scan read both switches closed
+  -- rule 5.7: flag 14 stands beside flag 1 where the last scan read both switches closed, and nowhere else
   pub closed_flag : (h : Log Input) (x : Input) → history s es ≡ (h ▸ x)
       → flag (record_after s es).status 14 ≡ (flag (record_after s es).status 1 && both_closed (reading s x.word))
-  -- an accepted entry that takes the motor in takes the ten steps and is entered in the history
+  -- rule 5.6: an accepted scan with this motor in it steps the record, and is one more of its history
   pub taken : (e : Entry) → counts (record_after s es) e ≡ true
       → (record_after s (es ▸ e) ≡ step (record_after s es) (input_of e).word (input_of e).period)
       × (history s (es ▸ e) ≡ (history s es ▸ input_of e))
-  -- any other leaves record and history as they are
+  -- any other entry does neither
   pub refused : (e : Entry) → counts (record_after s es) e ≡ false
       → (record_after s (es ▸ e) ≡ record_after s es) × (history s (es ▸ e) ≡ history s es)
-  -- a command issued is under way exactly until the first later scan that confirms it, finds its time up, or displaces it
+  -- rule 6.1: a command is under way for just as long as no scan after its issue did anything to it
   pub stays : (h k : Log Input) (c : ℕ) → history s es ≡ (h ⧺ k) → Issued s c h → UnderWay s c (count h) (h ⧺ k) ↔ Quiet s c h k
-  -- and in that scan it ends so
+  -- rule 6.2: the first scan that does something to it ends it in that way
   pub ends : (h k : Log Input) (x : Input) (c : ℕ) → history s es ≡ (h ⧺ (k ▸ x)) → Issued s c h → Quiet s c h k
       → Ends s c (count h) (fate s c (count h) (h ⧺ k) x) (h ⧺ k) x
-  -- a chain has at most seven commands, and its last is the one under way
+  -- rule 6.3: no chain is longer than seven, and its last command is the one under way
   pub chain : (h k : Log Input) (c₀ c i n : ℕ) → history s es ≡ (h ⧺ k) → Chain s c₀ h k c i n
       → (n ≤ most_in_chain) × UnderWay s c i (h ⧺ k)
-  -- if there is a scan after the one that issued the chain's first command, and the periods of these add up to the bound, it is over
+  -- rule 6.4: where any scan comes after the one that issued its first command, a chain is over by its bound
   pub over : (h k : Log Input) (c₀ : ℕ) → history s es ≡ (h ⧺ k) → Issued s c₀ h → k ≢ none → bound s k ≤ total k
       → Over s c₀ h k (bound s k)
-  -- what else stands in the list is nothing to this motor
+  -- rule 6.5: whatever else a list holds, one history leads to one record
   pub independent : (fs : Log Entry) → history s es ≡ history s fs → record_after s es ≡ record_after s fs

@@ -10,8 +10,7 @@ use Rattle.rules.specs.Refusals.{one_refusal, one_after, table_refusal, table_af
 use Rattle.rules.specs.Scans.{Input}
 use Rattle.book.specs.Log.{Log, none, ◌▸◌}
 
--- An entry is a table scan with words and a period, or a scan of a single motor, lent one record of the table, with a word and a period.
--- The motor that is followed may be in it or not; the other records may be any, in any number, and differ from entry to entry.
+-- What a motor may meet: rule 5.1
 pub data Entry : Type 0 where
   -- a table scan with this motor: the records before and behind its own, the words, the period
   table : List Motor → List Motor → List ℕ → ℕ → Entry
@@ -22,7 +21,7 @@ pub data Entry : Type 0 where
   -- a scan of another motor alone
   other_single : Motor → ℕ → ℕ → Entry
 
--- Each is accepted, 0, or refused by the order of refusals. m: this motor's record as it is lent.
+-- The result of an entry, 0 where it is accepted: rule 4.3. m: this motor's record as it is lent.
 unfoldable pub result_of : Motor → Entry → ℕ
 result_of m (table before behind words period) = table_refusal (before ++ (m ∷ behind)) words period
 result_of m (single word period) = one_refusal m word period
@@ -49,7 +48,7 @@ takes_in (single word period) = true
 takes_in (other_table ms words period) = false
 takes_in (other_single n word period) = false
 
--- an accepted scan that took in this motor
+-- it is accepted, and has this motor in it
 unfoldable pub counts : Motor → Entry → Bool
 counts m e = takes_in e && eqb (result_of m e) 0
 
@@ -58,12 +57,12 @@ unfoldable pub record_after : Settings → Log Entry → Motor
 record_after s none = fresh s
 record_after s (es ▸ e) = after (record_after s es) e
 
--- A motor's history: the word and period of each accepted scan that took in this motor, numbered from 1.
+-- A motor's history: rule 5.2. The first scan in it is number 1.
 unfoldable pub history : Settings → Log Entry → Log Input
 history s none = none
 history s (es ▸ e) = when counts (record_after s es) e then history s es ▸ input_of e else history s es
 
--- What the ten steps make of a fresh record over a history.
+-- The record that a history leads to: the ten steps, from a fresh one on
 unfoldable pub record_of : Settings → Log Input → Motor
 record_of s none = fresh s
 record_of s (h ▸ i) = step (record_of s h) i.word i.period

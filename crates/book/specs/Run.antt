@@ -8,7 +8,7 @@ use Rattle.rules.specs.Record.{fresh}
 use Rattle.rules.specs.Refusals.{one_after, table_after}
 use Rattle.book.specs.Log.{Log, none, ◌▸◌}
 use Rattle.book.specs.History.{Entry, table, single, other_single, record_after}
-use Rattle.book.specs.Claim.{Demand3}
+use Rattle.book.specs.Claim.{MotorClaim}
 
 -- a scan of the table with words and a period, or of the motor at a place with a word and a period
 pub data Order : Type 0 where
@@ -39,4 +39,4 @@ entries_at j t (os ▸ o) = entries_at j t os ▸ entry_at j (table_run t os) o
 -- The motor at the place j, fresh with the settings s at the start, is the one that the claim follows.
 pub record Followed (t : List Motor) (j : ℕ) (s : Settings) (os : Log Order) : Type 0 where
   pub same : get_or (table_run t os) j nobody ≡ record_after s (entries_at j t os)
-  pub claim : Demand3 s (entries_at j t os)
+  pub claim : MotorClaim s (entries_at j t os)

@@ -1,18 +1,18 @@
-// Where motors start, and what is claimed of them from there on: demand 3 of the paper.
+// Where motors start, and what is claimed of them from there on: rules 5 and 6.
 #![tactic(auto)]
 
 ghost use Rattle.std.specs.Prelude.{◌≡◌};
 ghost use Rattle.rules.specs.Record.{fresh};
 ghost use Rattle.book.specs.Log.{Log};
 ghost use Rattle.book.specs.History.{Entry};
-ghost use Rattle.book.specs.Claim.{Demand3};
+ghost use Rattle.book.specs.Claim.{MotorClaim};
 
 use rules::{Motor, Settings};
 
-// A fresh motor. Whatever scans it goes through from here, accepted or refused, among whatever other motors, demand 3
+// A fresh motor. Whatever scans it goes through from here, accepted or refused, among whatever other motors, the claim
 // holds of it after every one of them.
 pub fn start(s: Settings) -> Motor
-    ensures { (result ≡ fresh s) × ((es : Log Entry) → Demand3 s es) }
+    ensures { (result ≡ fresh s) × ((es : Log Entry) → MotorClaim s es) }
 {
     motor::fresh(s)
 }

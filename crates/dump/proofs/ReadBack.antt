@@ -1,4 +1,4 @@
--- The dump of a file is read back: the wires of its motors, and at each time the outputs after "the last scan not later than it", as the motors'
+-- The dump of a file is read back: the wires of its motors, and at each time the outputs that the last scan up to it left, as the motors'
 -- histories give them. Assumes nothing.
 use Prim.Native.Nat.{ℕ, ◌+◌, ◌*◌, ◌<◌, ◌≤◌}
 use mathlib.Core.Path.{◌≡◌, refl, ap}

@@ -1,27 +1,16 @@
--- The dump of the request's own file, and dumps of files with no motor, no scan or a refusal, by computing. Assumes nothing.
+-- The dump of sheets/first.txt, and dumps of files with no motor, no scan or a refusal, by computing. Assumes nothing.
 use Prim.Native.Nat.{ℕ}
 use mathlib.Core.Path.{◌≡◌, refl}
 use mathlib.Core.List.{List, [], ◌∷◌, ◌++◌}
 use Rattle.rules.specs.Opened.{opened as rules-opened}
 use Rattle.sheet.specs.Opened.{opened as sheet-opened}
+use Rattle.sheet.proofs.Vectors.{first_file}
 use Rattle.totals.specs.Opened.{opened as totals-opened}
 use Rattle.report.specs.Opened.{opened as report-opened}
 use Rattle.interpreter.specs.Opened.{opened as interpreter-opened}
 use Rattle.vcd.specs.Opened.{opened as vcd-opened}
 use Rattle.dump.specs.Dump.{dump_of}
 use Rattle.dump.specs.Opened.{opened}
-
--- M,1,193,0,500,300, I,1,32, S,100, I,1,4128, S,100, I,1,16, S,100
-pub paper : List ℕ
-paper =
-    77 ∷ 44 ∷ 49 ∷ 44 ∷ 49 ∷ 57 ∷ 51 ∷ 44 ∷ 48 ∷ 44 ∷ 53 ∷ 48 ∷ 48 ∷ 44 ∷ 51 ∷ 48 ∷ 48 ∷ 10 ∷
-    73 ∷ 44 ∷ 49 ∷ 44 ∷ 51 ∷ 50 ∷ 10 ∷
-    83 ∷ 44 ∷ 49 ∷ 48 ∷ 48 ∷ 10 ∷
-    73 ∷ 44 ∷ 49 ∷ 44 ∷ 52 ∷ 49 ∷ 50 ∷ 56 ∷ 10 ∷
-    83 ∷ 44 ∷ 49 ∷ 48 ∷ 48 ∷ 10 ∷
-    73 ∷ 44 ∷ 49 ∷ 44 ∷ 49 ∷ 54 ∷ 10 ∷
-    83 ∷ 44 ∷ 49 ∷ 48 ∷ 48 ∷ 10 ∷
-    []
 
 -- header and #0 of no motor and of one
 no_motor : List ℕ
@@ -55,9 +44,9 @@ later =
     48 ∷ 33 ∷ 10 ∷
     []
 
-pub paper_dump : dump_of paper ≡ one_motor ++ later
-unfolding opened interpreter-opened rules-opened totals-opened sheet-opened report-opened vcd-opened paper one_motor later
-paper_dump = refl
+pub first_dump : dump_of first_file ≡ one_motor ++ later
+unfolding opened interpreter-opened rules-opened totals-opened sheet-opened report-opened vcd-opened first_file one_motor later
+first_dump = refl
 
 -- an empty file
 empty : dump_of ([]) ≡ no_motor
@@ -89,14 +78,14 @@ second_motor_refused : dump_of (77 ∷ 44 ∷ 49 ∷ 44 ∷ 49 ∷ 57 ∷ 51 ∷
 unfolding opened interpreter-opened rules-opened totals-opened sheet-opened report-opened vcd-opened one_motor
 second_motor_refused = refl
 
--- the request's file with I,2,0, S,100 after it: nothing more
-refused_after_a_change : dump_of (paper ++ (73 ∷ 44 ∷ 50 ∷ 44 ∷ 48 ∷ 10 ∷ 83 ∷ 44 ∷ 49 ∷ 48 ∷ 48 ∷ 10 ∷ [])) ≡ one_motor ++ later
-unfolding opened interpreter-opened rules-opened totals-opened sheet-opened report-opened vcd-opened paper one_motor later
+-- that file with I,2,0, S,100 after it: nothing more
+refused_after_a_change : dump_of (first_file ++ (73 ∷ 44 ∷ 50 ∷ 44 ∷ 48 ∷ 10 ∷ 83 ∷ 44 ∷ 49 ∷ 48 ∷ 48 ∷ 10 ∷ [])) ≡ one_motor ++ later
+unfolding opened interpreter-opened rules-opened totals-opened sheet-opened report-opened vcd-opened first_file one_motor later
 refused_after_a_change = refl
 
 -- its last line without LF is refused
-without_the_last_lf : dump_of (paper ++ (83 ∷ 44 ∷ 49 ∷ 48 ∷ 48 ∷ [])) ≡ one_motor ++ later
-unfolding opened interpreter-opened rules-opened totals-opened sheet-opened report-opened vcd-opened paper one_motor later
+without_the_last_lf : dump_of (first_file ++ (83 ∷ 44 ∷ 49 ∷ 48 ∷ 48 ∷ [])) ≡ one_motor ++ later
+unfolding opened interpreter-opened rules-opened totals-opened sheet-opened report-opened vcd-opened first_file one_motor later
 without_the_last_lf = refl
 
 -- M,1,193,0,500,300, I,1,4128, S,100: #0 has the outputs before the scan

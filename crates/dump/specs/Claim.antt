@@ -1,5 +1,5 @@
--- What is claimed of the dump of a file: change request 5, "Read back, the dump gives at every time the outputs after the last scan not later than
--- it." A reader (vcd/specs/Reader.antt) reads the dump; the outputs are those of the motors' histories, which the file alone makes.
+-- What is claimed of the dump of a file: rule 9.5. A reader (vcd/specs/Reader.antt) reads it; the outputs are those of the motors' histories,
+-- which the file alone makes.
 use Rattle.std.specs.Prelude.{ℕ, ◌≡◌, Bool, true, false, List, [], ◌∷◌, map, leb, length}
 use Rattle.words.specs.Word.{when◌then◌else◌}
 use Rattle.rules.specs.declared.Motor.{Motor}
@@ -15,7 +15,7 @@ use Rattle.vcd.specs.Reader.{Wire, declared, unknown, scale_of, wires_of, value_
 use Rattle.vcd.specs.Expected.{motor_wires, bit}
 use Rattle.dump.specs.Dump.{signals_of, dump_of}
 
--- The histories (demand 3) of the motors of a file, by number: "A refused line ends the dump"
+-- The histories of the motors of a file, by number, up to a line that is refused
 unfoldable pub histories_in : List ℕ → List History
 histories_in file = histories_of (accepted_from empty_state (requests_of file))
 
@@ -24,7 +24,7 @@ unfoldable pub up_to : ℕ → Log Input → Log Input
 up_to time none = none
 up_to time (scans ▸ x) = when leb (total (scans ▸ x)) time then scans ▸ x else up_to time scans
 
--- A motor's record after the last of these: what the ten steps make of a fresh one over them
+-- A motor's record after the last of these
 unfoldable pub record_at : ℕ → History → Motor
 record_at time h = record_of h.settings (up_to time h.scans)
 
@@ -40,7 +40,7 @@ pub record ReadsBack (file : List ℕ) : Type 0 where
   pub values : (time : ℕ) → map (λ (w : Wire). value_at (dump_of file) w.code time) (wires_of (dump_of file)) ≡ map bit (outputs_at file time)
   pub others : (code : List ℕ) (time : ℕ) → declared (wires_of (dump_of file)) code ≡ false → value_at (dump_of file) code time ≡ unknown
 
--- The claim, for any file; "over 65,536 bytes there is none"
+-- The claim, for any file; one that is too long has no dump
 pub record DumpClaim (file : List ℕ) : Type 0 where
   pub long : too_long (length file) ≡ true → dump_of file ≡ []
   pub read : too_long (length file) ≡ false → ReadsBack file

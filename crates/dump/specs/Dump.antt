@@ -1,4 +1,4 @@
--- The dump of a whole file, which is the meaning of the waveform program: change request 5.
+-- The dump of a whole file, which is the meaning of the waveform program: rules 9.2 to 9.4.
 use Rattle.std.specs.Prelude.{ℕ, ◌+◌, Bool, true, false, not, ◌||◌, List, [], ◌∷◌, ◌++◌, eqb, length}
 use Rattle.words.specs.Word.{when◌then◌else◌}
 use Rattle.rules.specs.declared.Motor.{Motor}
@@ -18,7 +18,7 @@ unfoldable pub signals_of : List Motor → List Bool
 signals_of [] = []
 signals_of (m ∷ ms) = motor_signals m.output.state ++ signals_of ms
 
--- "the sum of the periods so far", after an accepted request
+-- The time after an accepted request: a scan adds its period
 unfoldable pub time_after : ℕ → Request → ℕ
 time_after time (M number ops1 ops2 w u) = time
 time_after time (I number word) = time
@@ -32,7 +32,7 @@ sample_of time t (I number word) = []
 sample_of time t (S period) = record { time = time; signals = signals_of t.motors } ∷ []
 sample_of time t Refused = []
 
--- The scans that the requests make, up to the first request that is refused: "A refused line ends the dump"
+-- The scans that the requests make, up to the first request that is refused
 unfoldable pub samples_from : ℕ → State → List Request → List Sample
 samples_from time t [] = []
 samples_from time t (r ∷ rs) =
@@ -44,7 +44,7 @@ is_scan (I number word) = false
 is_scan (S period) = true
 is_scan Refused = false
 
--- The motors of which header and #0 speak: those "before the first scan, or at the end, also one at a refused line, if none runs"
+-- The motors of which header and #0 speak: those of the first scan, or of the end or the refused line that comes before any
 unfoldable pub motors_before_scans : State → List Request → List Motor
 motors_before_scans t [] = t.motors
 motors_before_scans t (r ∷ rs) = when is_scan r || not (eqb (refusal_for t r) 0) then t.motors else motors_before_scans (changed t r) rs
@@ -59,6 +59,6 @@ requests_dump rs =
     let ms = motors_before_scans empty_state rs in
     recording_text (length ms) (signals_of ms) (samples_from 0 empty_state rs)
 
--- The whole dump; "over 65,536 bytes there is none"
+-- The whole dump; a file that is too long has none
 unfoldable pub dump_of : List ℕ → List ℕ
 dump_of file = when too_long (length file) then [] else requests_dump (requests_of file)

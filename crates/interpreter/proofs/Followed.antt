@@ -1,5 +1,5 @@
--- Every motor of a bench that began empty is one that demand 3 follows: it was fresh when its M line added it, and each accepted S line
--- since is a scan of the whole table with the words that the motors held. Its history, as the lines of a file make it, is the one that demand 3
+-- Every motor of a bench that began empty is one that the claim follows: it was fresh when its M line added it, and each accepted S line
+-- since is a scan of the whole table with the words that the motors held. Its history, as the lines of a file make it, is the one that the claim
 -- and the claim on the totals speak of. Assumes nothing.
 use Rattle.std.proofs.Common.{ℕ, zero, suc, ◌<◌, ◌≡◌, refl, sym, ap, ◌∙◌, true, false, List, [], ◌∷◌, ◌++◌, map, arith, eqb, length, get_or, length-append, eqb-true}
 use mathlib.Core.List.{map-append}
@@ -144,7 +144,7 @@ abbrev pub met_by : ℕ → List Request → Log Entry
 met_by j rs = entries_at j (map fresh_in (histories_of rs)) (orders_of rs)
 
 module _ (rs : List Request) (j : ℕ) (h : j < length (histories_of rs)) where
-  -- demand 3 holds of each motor
+  -- the claim holds of each motor
   pub each_followed : Followed (map fresh_in (histories_of rs)) j (get_or (histories_of rs) j unheld).settings (orders_of rs)
   unfolding nobody
   each_followed =

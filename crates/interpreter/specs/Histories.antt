@@ -1,6 +1,5 @@
--- "A motor's history is its settings and, numbered from 1, the word and period of each accepted scan that took in this motor", as the lines of
--- a file make them. A scan of a file takes in every motor, each with the word that it holds then. proofs/Followed.antt shows that these are the
--- histories of demand 3.
+-- The motors' histories, rule 5.2, as the lines of a file make them. A scan of a file takes in every motor, each with the word that it holds
+-- then. proofs/Followed.antt shows that the claim on a motor speaks of these histories: rule 6.6.
 use Rattle.std.specs.Prelude.{ℕ, List, [], ◌∷◌, ◌++◌, eqb}
 use Rattle.words.specs.Word.{when◌then◌else◌}
 use Rattle.rules.specs.declared.Settings.{Settings}

@@ -1,4 +1,4 @@
--- The state of a bench, and what the request of a line does to it: the paper's "The bench program's file", and its "Order" for M, I and S.
+-- The state of a bench, and what the request of a line does to it: rules 7.5 to 7.8, and rule 4.3 for M, I and S.
 -- A refused line leaves the state as it was; 0 is an accepted line.
 use Rattle.std.specs.Prelude.{ℕ, ◌+◌, ◌-◌, ◌≡◌, min, Bool, true, not, ◌&&◌, List, [], ◌∷◌, ◌++◌, eqb, leb, ltb, length, take, set, Result, OnErr}
 use Rattle.words.specs.Word.{when◌then◌else◌}
@@ -39,7 +39,7 @@ motor_refusal held scans number s =
     else when not (eqb number (held + 1)) then 9
     else 0
 
--- It "adds a motor", a fresh one; the word that it holds is 0 before the first I.
+-- The motor that it adds is fresh, and holds the word 0.
 unfoldable pub with_motor : State → Settings → State
 with_motor t s =
     record {
@@ -56,14 +56,14 @@ is_there held number = leb 1 number && leb number held
 unfoldable pub input_refusal : ℕ → ℕ → ℕ → ℕ
 input_refusal held number word = when not (is_there held number) then 10 else when not (word_ok word) then 3 else 0
 
--- It "sets the word it holds from then on".
+-- The word is held up to the motor's next I line.
 unfoldable pub with_words : State → List ℕ → State
 with_words t words = record { motors = t.motors; totals = t.totals; words = words; scans = t.scans }
 
 unfoldable pub with_word : State → ℕ → ℕ → State
 with_word t number word = with_words t (set t.words (number - 1) word)
 
--- `S,period` "scans": the table's scan with the words that the motors hold, refused as that is. In a bench that began empty this leaves
+-- `S,period`: the table's scan with the words that the motors hold, refused as that is. In a bench that began empty this leaves
 -- nothing but 2 (proofs/Kept.antt). An accepted scan is counted.
 unfoldable pub scan_refusal : State → ℕ → ℕ
 scan_refusal t period = table_refusal t.motors t.words period
@@ -108,7 +108,7 @@ unfoldable pub all_accepted : State → List Request → Bool
 all_accepted t [] = true
 all_accepted t (r ∷ rs) = eqb (refusal_for t r) 0 && all_accepted (changed t r) rs
 
--- 1: "a file exceeds 65,536 bytes"
+-- 1: a file of so many bytes is too long
 unfoldable pub too_long : ℕ → Bool
 too_long n = ltb 65536 n
 

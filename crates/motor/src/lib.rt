@@ -1,4 +1,4 @@
-// One motor's record taken through one scan, by value: the record, its word and the period side by side, as the paper names the step. Where a
+// One motor's record taken through one scan, by value: the record, its word and the period side by side, as the rules name them. Where a
 // rule goes by settings, status or output alone, these are handed on side by side too, as in its definition.
 #![tactic(auto)]
 

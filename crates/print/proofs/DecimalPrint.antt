@@ -1,4 +1,4 @@
--- Change request 4 leaves the prints of other files as they were: those of which no line that was read has a word field that begins with 0x, and all
+-- Words in hexadecimal leave the prints of other files as they are: those of which no line that is read has a word field that begins with 0x, and all
 -- that were accepted. Assumes nothing.
 use Prim.Native.Nat.{ℕ}
 use mathlib.Core.Path.{◌≡◌, refl, sym, ap, ◌∙◌}
@@ -35,7 +35,7 @@ module _ (end before : List ℕ) where
       r : Request
       r = decimal_text l
 
-      -- the line makes the request that it made
+      -- the line makes the same request
       same : text_has0x l ≡ false → (rs : List Request) → print_from end (text_request l ∷ rs) t k ≡ print_from end (r ∷ rs) t k
       same e rs = ap (λ (q : Request). print_from end (q ∷ rs) t k) (same_text l e)
 

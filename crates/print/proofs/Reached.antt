@@ -1,4 +1,4 @@
--- Demand 3 holds of a bench at any place that the lines of a file lead to: it is one that accepted requests lead to. Assumes nothing.
+-- The claim holds of a bench at any place that the lines of a file lead to: it is one that accepted requests lead to. Assumes nothing.
 use Prim.Native.Nat.{ℕ}
 use mathlib.Core.List.{List}
 use Rattle.interpreter.proofs.Followed.{Reached, one_reached}

@@ -1,5 +1,5 @@
--- What a file prints if words are decimal alone, as before change request 4. The laws in proofs/DecimalPrint.antt: a file prints that still, if no
--- line that was read then has a word field that begins with 0x; so does each file of which every line was accepted.
+-- What a file prints if words are decimal alone: rule 7.4. The laws in proofs/DecimalPrint.antt: a file prints just that, if no line that is read
+-- so has a word field that begins with 0x; and each file prints it of which every line, read so, is accepted.
 use Rattle.std.specs.Prelude.{ℕ, Bool, true, false, List, [], ◌∷◌, eqb, length}
 use Rattle.words.specs.Word.{when◌then◌else◌}
 use Rattle.sheet.specs.Lines.{Text, lines_of}

@@ -1,4 +1,4 @@
--- The print of a whole file, which is the meaning of the bench program: the paper's "The bench program's file".
+-- The print of a whole file, which is the meaning of the bench program: rule 8.
 use Rattle.std.specs.Prelude.{ℕ, ◌+◌, List, [], ◌∷◌, ◌++◌, eqb, length}
 use Rattle.words.specs.Word.{when◌then◌else◌}
 use Rattle.rules.specs.declared.Motor.{Motor}
@@ -27,20 +27,20 @@ motor_row scan number m =
       flags = m.status.flags;
     }
 
--- One line a motor, by rising number, from a number on
+-- A row for each motor, from a number on
 unfoldable pub rows_of : ℕ → ℕ → List Motor → List ℕ
 rows_of scan number [] = []
 rows_of scan number (m ∷ ms) = row_of (motor_row scan number m) ++ rows_of scan (number + 1) ms
 
--- What an accepted line prints: "After each scan one line a motor". `t` is the state after it.
+-- What an accepted line prints: a scan its rows, another line nothing. `t` is the state after it.
 unfoldable pub answer_of : State → Request → List ℕ
 answer_of t (M number ops1 ops2 w u) = []
 answer_of t (I number word) = []
 answer_of t (S period) = rows_of t.scans 1 t.motors
 answer_of t Refused = []
 
--- What is printed once a file has been read to its end without a refusal (change request 2): one line a motor, by rising number, from a number
--- on, with the totals of its history. `T,number,issued,confirmed,displaced,overdue,under way,on,best,worst`
+-- The totals, rule 8.3: a T line for each motor, from a number on, with what its history comes to
+-- `T,number,issued,confirmed,displaced,overdue,under way,on,best,worst`
 unfoldable pub totals_row : ℕ → ℕ → Totals → TotalsRow
 totals_row number underway t =
     record {
@@ -62,8 +62,7 @@ unfoldable pub totals_print : ℕ → List History → List ℕ
 totals_print number [] = []
 totals_print number (h ∷ hs) = totals_row_of (history_row number h) ++ totals_print (number + 1) hs
 
--- The prints of the lines that make these requests, the first of them line number k, and then the end. "A refusal prints `E,line,refusal` and
--- the program stops."
+-- The prints of the lines that make these requests, the first of them line number k, and then the end; or up to the first that is refused
 unfoldable pub print_from : List ℕ → List Request → State → ℕ → List ℕ
 print_from end [] t k = end
 print_from end (r ∷ rs) t k =
@@ -74,8 +73,8 @@ print_from end (r ∷ rs) t k =
 unfoldable pub lines_print : List ℕ → List ℕ
 lines_print file = print_from [] (requests_of file) empty_state 1
 
--- The print of a file whose lines make these requests. Lines of the file are counted from 1, and so are motors. The totals are printed only if no
--- line is refused, so they are those of the histories that all lines make.
+-- The print of a file whose lines make these requests, line 1 the first. The totals are printed only if no line is refused, so they are those of
+-- the histories that all lines make.
 unfoldable pub requests_print : List Request → List ℕ
 requests_print rs = print_from (totals_print 1 (histories_of rs)) rs empty_state 1
 

@@ -1,4 +1,4 @@
--- Lines of the paper's print, by computing. Assumes nothing.
+-- Lines of the print, by computing. Assumes nothing.
 use mathlib.Core.Path.{◌≡◌, refl}
 use mathlib.Core.List.{[], ◌∷◌}
 use Rattle.report.specs.Print.{decimal, row_of, totals_row_of, refusal_of}

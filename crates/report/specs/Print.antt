@@ -1,5 +1,4 @@
--- What is printed: the paper's "The bench program's file", `R,scan,number,mode,position,command,end,output,flags` and
--- `E,line,refusal`, and the T lines of change request 2. "All numbers are decimal."
+-- The lines of the print: rules 8.1 to 8.3. Numbers are printed in decimal.
 use Rattle.std.specs.Prelude.{ℕ, zero, suc, ◌+◌, ◌/◌, ◌%◌, List, [], ◌∷◌, ◌++◌, ltb}
 use Rattle.words.specs.Word.{when◌then◌else◌}
 use Rattle.sheet.specs.Split.{LF, comma}

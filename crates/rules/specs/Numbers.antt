@@ -1,4 +1,4 @@
--- The numbers of the refusals: the paper's "Refused because of the input" and "Refused because of the state".
+-- The numbers of the refusals: rule 4.2.
 use Rattle.std.specs.Prelude.{ℕ, Result, Ok, Err}
 use Rattle.rules.specs.declared.Refusal.{Refusal}
 use Rattle.rules.specs.declared.Refusal.TheVariants.{Size, Period, Word, Setting, Line, Record, Full, Scanned, Number, Absent}

@@ -1,5 +1,4 @@
--- A motor's settings, input word, commands and record: the paper's sections "A motor's settings and input" and "The record".
--- All numbers are decimal, times are milliseconds. Letters: s settings, v status, o output, m record, c a command's number.
+-- A motor's settings, input word, commands and record: rules 1 and 2 of docs/RULES.md. Times are milliseconds. Letters: s settings, v status, o output, m record, c a command's number.
 -- `x.f` is field f of x; `&&` is and, `||` or, `&&` binds before `||`; `eqb a b` is a = b, `leb a b` is a ≤ b, `ltb a b` is a < b.
 use Rattle.std.specs.Prelude.{ℕ, ◌+◌, Bool, ◌||◌, List, [], ◌∷◌, eqb, not, Option}
 use Rattle.std.specs.Bool.{then_some}
@@ -9,16 +8,14 @@ use Rattle.rules.specs.declared.Status.{Status}
 use Rattle.rules.specs.declared.Output.{Output}
 use Rattle.rules.specs.declared.Motor.{Motor}
 
--- Bit k of OPS_1, and of OPS_2
+-- Bit k of OPS_1, and of OPS_2: rules 1.3 and 1.4
 unfoldable pub ops₁ : Settings → ℕ → Bool
 ops₁ s k = is_set k s.ops1
 
 unfoldable pub ops₂ : Settings → ℕ → Bool
 ops₂ s k = is_set k s.ops2
 
--- Bit k of the input word is the source's X(k+4): 0 emergency off (SMA), 1 local mode (MU), 2 MU on, 3 MU off, 4 On switch, 5 Off switch,
--- 6 no supply, 7 logic task (LZ) on, 8 LZ off, 9 operator (KO) Repair, 10 KO Reserve, 11 KO Work, 12 KO on, 13 KO off, 14 forbid on,
--- 15 forbid off; bit 16 is Reset (X22). Bits 9 to 11 ask for a mode (step 6); the bits of the commands are `input_bit`; the others:
+-- The input word: rule 1.5. Bits 9 to 11 ask for a mode (rule 3.6), those of the commands are `input_bit`; the others:
 unfoldable pub local_mode : ℕ → Bool
 local_mode word = is_set 1 word
 
@@ -83,7 +80,7 @@ output_on = 1
 abbrev pub output_off : ℕ
 output_off = 2
 
--- The seven switching commands, strongest first. No command is 0.
+-- The seven switching commands, strongest first: rule 1.7. No command is 0.
 abbrev pub no_command : ℕ
 no_command = 0
 
@@ -115,7 +112,7 @@ commands = sma_off ∷ lz_off ∷ lz_on ∷ mu_off ∷ mu_on ∷ ko_off ∷ ko_o
 abbrev pub command_of : ℕ → Option ℕ
 command_of c = then_some (not (eqb c no_command)) c
 
--- The direction of a command; what is no command has none
+-- The direction of a command, rule 1.7; what is no command has none
 unfoldable pub direction : ℕ → ℕ
 direction c =
     when eqb c lz_on || eqb c mu_on || eqb c ko_on then on
@@ -154,19 +151,18 @@ input_bit c =
     else when eqb c ko_on then 12
     else 32
 
--- Flag k: 0 no supply, 1 switch fault, 2 and 3 unsanctioned on and off, 4 on by LZ, 5 off by LZ, 6 off by SMA, 6+c command c overdue,
--- 14 switch fault with both switches closed (change request 1)
+-- Flag k, and the flag of command c overdue: rule 2.2
 unfoldable pub flag : Status → ℕ → Bool
 flag v k = is_set k v.flags
 
 unfoldable pub overdue_flag : ℕ → ℕ
 overdue_flag c = 6 + c
 
--- Rising: bit k is 1 now and was 0 in the last accepted scan
+-- Rising: rule 1.6
 unfoldable pub bit_risen : Status → ℕ → ℕ → Bool
 bit_risen v word k = rose k word v.previous
 
--- A command's input bit has risen
+-- of a command, by its input bit
 unfoldable pub command_risen : Status → ℕ → ℕ → Bool
 command_risen v word c = bit_risen v word (input_bit c)
 
@@ -174,11 +170,11 @@ command_risen v word c = bit_risen v word (input_bit c)
 unfoldable pub idle : Status → Bool
 idle v = eqb v.command no_command
 
--- An output that drops leaves output and pulse sum 0
+-- What a dropped output leaves: rule 2.5
 unfoldable pub dropped : Output
 dropped = record { state = no_output; sum = 0 }
 
--- A fresh record is Work, all else 0
+-- A fresh record, before its first scan: rule 2.3
 unfoldable pub fresh_status : Status
 fresh_status =
     record { mode = work; sure = unsure; position = unsure; command = no_command; end = no_end; flags = 0; previous = 0 }

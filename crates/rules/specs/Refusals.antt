@@ -1,5 +1,4 @@
--- The limits, and the order of refusals of a scan: the paper's "Refused because of the input", "Refused because of the state" and
--- "Order", as far as they concern a scan. 0 is an accepted scan.
+-- The limits, and the order of refusals of a scan: rules 4.1 to 4.5, as far as they concern a scan. 0 is an accepted scan.
 use Rattle.std.specs.Prelude.{ℕ, Bool, not, ◌&&◌, ◌||◌, List, [], ◌∷◌, ◌++◌, eqb, leb, ltb, length, take, drop}
 use Rattle.std.specs.List.{list_all}
 use Rattle.words.specs.Word.{when◌then◌else◌}
@@ -9,7 +8,7 @@ use Rattle.rules.specs.declared.Output.{Output}
 use Rattle.rules.specs.declared.Motor.{Motor}
 use Rattle.rules.specs.Steps.{step}
 
--- The limits.
+-- The limits: rule 4.1
 abbrev pub most_time : ℕ
 most_time = 600000
 
@@ -28,7 +27,7 @@ most_period = 10000
 unfoldable pub most_motors : ℕ
 most_motors = 32
 
--- Every field of a record is in its range, its settings included.
+-- A record in range: rule 2.1, with the settings of rule 1.2
 unfoldable pub settings_in_range : Settings → Bool
 settings_in_range s = leb s.ops1 65535 && leb s.ops2 31 && leb s.w most_time && leb s.u most_time
 
@@ -43,23 +42,22 @@ output_in_range o = leb o.state 2 && leb o.sum most_sum
 unfoldable pub in_range : Motor → Bool
 in_range m = settings_in_range m.settings && status_in_range m.status && leb m.sum most_sum && output_in_range m.output
 
--- A period is 1 to 10,000, an input word at most 131,071.
+-- A period, and an input word, in limits
 unfoldable pub period_ok : ℕ → Bool
 period_ok period = leb 1 period && leb period most_period
 
 unfoldable pub word_ok : ℕ → Bool
 word_ok word = leb word most_word
 
--- A scan of a single motor: 6, 2, 3; refused, it leaves the record as it was.
+-- A scan of one motor, rule 4.3: 6, 2, 3; refused, it leaves the record as it was.
 unfoldable pub one_refusal : Motor → ℕ → ℕ → ℕ
 one_refusal m word period = when not (in_range m) then 6 else when not (period_ok period) then 2 else when not (word_ok word) then 3 else 0
 
 unfoldable pub one_after : Motor → ℕ → ℕ → Motor
 one_after m word period = when eqb (one_refusal m word period) 0 then step m word period else m
 
--- A table scan: 1, 6, 2, 3, over the whole table before anything is written; refused, it leaves the table as it was. Accepted, it
--- scans every motor, each from its own record, its own word and the period alone.
--- 1: records and words differ in count, or exceed 32
+-- A scan of a table, rules 4.3 to 4.5: 1, 6, 2, 3, each asked of the whole table; refused, it leaves the table as it was.
+-- 1: so many records and so many words make no table
 unfoldable pub misfit : ℕ → ℕ → Bool
 misfit records words = not (eqb records words) || ltb most_motors records
 

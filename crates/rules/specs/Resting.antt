@@ -1,4 +1,4 @@
--- A motor at rest in a scan. No rule of the paper: what code may do in place of the ten steps, which proofs/Resting.antt shows to be the same.
+-- A motor at rest in a scan. It is no rule, but what code may do in place of the ten steps: proofs/Resting.antt shows that it is the same.
 use Rattle.std.specs.Prelude.{ℕ, Bool, not, ◌&&◌, eqb}
 use Rattle.words.specs.Word.{without}
 use Rattle.rules.specs.declared.Settings.{Settings}

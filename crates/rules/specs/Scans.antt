@@ -1,4 +1,4 @@
--- A motor taken through scans of its own; and what the code of the steps needs (no rule of the paper).
+-- A motor taken through scans of its own; and what the code of the steps needs, which is no rule.
 use Rattle.std.specs.Prelude.{ℕ, ◌<◌, ◌≤◌, List, [], ◌∷◌}
 use Rattle.rules.specs.declared.Motor.{Motor}
 use Rattle.rules.specs.Refusals.{most_time, most_period, most_word, one_after}

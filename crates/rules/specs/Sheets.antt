@@ -1,4 +1,4 @@
--- Sheets with their marks, shown of the rules themselves by computation. Assumes nothing.
+-- Sheets with their marks, shown of the rules themselves by computation. Those of docs/RULES.md come first, then our own. Assumes nothing.
 use Rattle.std.specs.Prelude.{ℕ, suc, zero, ◌≡◌, refl, Bool, true, ◌&&◌, List, [], ◌∷◌, ◌++◌, eqb}
 use Rattle.rules.specs.declared.Settings.{Settings}
 use Rattle.rules.specs.declared.Motor.{Motor}
@@ -49,7 +49,7 @@ sheet s words marks = record { start = fresh s; inputs = inputs_of words; marks 
 unfoldable pub wiring : ℕ → ℕ → ℕ → ℕ → Settings
 wiring ops1 ops2 w u = record { ops1 = ops1; ops2 = ops2; w = w; u = u }
 
--- the settings of the paper's sheets
+-- the settings of the sheets in docs/RULES.md
 unfoldable pub wired : Settings
 wired = wiring 193 0 500 300
 
@@ -70,41 +70,35 @@ unfoldable pub all_right : List Sheet → Bool
 all_right [] = true
 all_right (t ∷ ts) = all_accepted t.start t.inputs && all_marked (scans t.start t.inputs) t.marks && all_right ts
 
--- The paper's sheets. Those with a star are owed; the rest of the same lines stand with them.
-unfoldable pub paper_sheets : List Sheet
-paper_sheets =
-    -- the whole print
+-- The sheets of docs/RULES.md, in its order
+unfoldable pub given_sheets : List Sheet
+given_sheets =
     sheet wired (32 ∷ []) (line 2 1 0 0 0 0)
     ∷ sheet wired (32 ∷ 4128 ∷ []) (line 2 1 7 0 1 0)
     ∷ sheet wired (32 ∷ 4128 ∷ 16 ∷ []) (line 2 2 0 1 0 0)
-    -- scan 1, word 4128 *
     ∷ sheet wired (4128 ∷ []) (line 2 1 7 0 1 0)
-    -- scan 4 *, scan 5, scan 6 *
     ∷ sheet wired (32 ∷ 4128 ∷ 32 ∷ 32 ∷ []) (line 2 1 7 0 1 0)
     ∷ sheet wired (32 ∷ 4128 ∷ 32 ∷ 32 ∷ 32 ∷ []) (output ≔ 0 ∷ [])
     ∷ sheet wired (32 ∷ 4128 ∷ 32 ∷ 32 ∷ 32 ∷ 32 ∷ []) (line 2 1 7 0 0 0)
-    -- scan 7 *, with word 16 *
     ∷ sheet wired (32 ∷ 4128 ∷ 32 ∷ 32 ∷ 32 ∷ 32 ∷ 32 ∷ []) (line 2 1 0 3 0 8192)
     ∷ sheet wired (32 ∷ 4128 ∷ 32 ∷ 32 ∷ 32 ∷ 32 ∷ 16 ∷ []) (line 2 2 0 1 0 0)
-    -- scan 3, word 288 or 416 *, then 32 *
+    -- LZ off displaces KO on, with LZ on or without
     ∷ sheet wired (32 ∷ 4128 ∷ 288 ∷ []) (line 2 1 2 2 2 32)
     ∷ sheet wired (32 ∷ 4128 ∷ 416 ∷ []) (line 2 1 2 2 2 32)
     ∷ sheet wired (32 ∷ 4128 ∷ 288 ∷ 32 ∷ []) (line 2 1 0 1 0 32)
     ∷ sheet wired (32 ∷ 4128 ∷ 416 ∷ 32 ∷ []) (line 2 1 0 1 0 32)
-    -- W = 0, scan 3 *
     ∷ sheet (wiring 193 0 0 300) (32 ∷ 4128 ∷ 32 ∷ []) (line 2 1 0 3 0 8192)
-    -- words 32, 16 *
     ∷ sheet wired (32 ∷ 16 ∷ []) (line 2 2 0 0 0 4)
-    -- scan 1, word 48 *, OPS_2 28 *, 12; their flags are those of change request 1
+    -- both switches closed
     ∷ sheet wired (48 ∷ []) (line 2 0 0 0 0 16386)
     ∷ sheet (wiring 193 28 500 300) (48 ∷ []) (line 2 2 0 0 0 16386)
     ∷ sheet (wiring 193 12 500 300) (48 ∷ []) (line 2 1 0 0 0 16386)
-    -- scan 1, word 544 *, word 2592 *
+    -- the mode keys
     ∷ sheet wired (544 ∷ []) (mode ≔ 0 ∷ [])
     ∷ sheet wired (2592 ∷ []) (mode ≔ 2 ∷ [])
     ∷ []
 
--- Our own, from a fresh record: what the paper's sheets leave open
+-- Our own, from a fresh record: what those leave open
 unfoldable pub own_sheets : List Sheet
 own_sheets =
     -- a fresh record, before any scan
@@ -300,8 +294,8 @@ lent_sheets =
     ∷ flags_after 0 32767 65584 16386
     ∷ []
 
-pub sheets_right : all_right (paper_sheets ++ (own_sheets ++ lent_sheets)) ≡ true
-unfolding opened all_right all_accepted all_marked value_of inputs_of sheet wiring wired line paper_sheets own_sheets lent flagged flags_after lent_sheets
+pub sheets_right : all_right (given_sheets ++ (own_sheets ++ lent_sheets)) ≡ true
+unfolding opened all_right all_accepted all_marked value_of inputs_of sheet wiring wired line given_sheets own_sheets lent flagged flags_after lent_sheets
 sheets_right = refl
 
 -- The limits, on both sides, and the order of refusals.

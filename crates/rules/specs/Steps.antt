@@ -1,8 +1,8 @@
--- One scan of one motor: the paper's "One scan, in this order", a definition a step (letters and signs: see Record.antt). `statusN` and
--- `flagsN` are the status and the flags that step N leaves. What a change request altered bears its number (docs/CHANGES.md).
+-- One scan of one motor: rules 3.1 to 3.10 of docs/RULES.md, a definition a step (letters and signs: see Record.antt). `statusN` and
+-- `flagsN` are the status and the flags that step N leaves.
 -- Steps 1, 2, 5 to 8 and 10 go by the settings, the status and the input word alone, and so does what steps 4 and 9 do to the status: the
 -- book of commands shares them. It has no sums and no output, so it hands step 4 its own answer to whether the time is up.
--- The switches are read once (`reading`); steps 2, 4 and 5 are handed what they read.
+-- What the switches read (`reading`) is found once, and handed to steps 2, 4 and 5.
 use Rattle.std.specs.Prelude.{ℕ, ◌+◌, Bool, true, false, not, ◌&&◌, ◌||◌, List, [], ◌∷◌, eqb, leb, ltb}
 use Rattle.std.specs.List.{list_any}
 use Rattle.words.specs.Word.{when◌then◌else◌, with_bit, without_bit, without_bits}
@@ -14,19 +14,18 @@ use Rattle.rules.specs.declared.Reading.{Reading}
 use Rattle.rules.specs.declared.Reading.TheVariants.{Off, On, BothOpen, BothClosed}
 use Rattle.rules.specs.Record.{ops₁, ops₂, local_mode, on_switch, off_switch, no_supply, forbid_on, forbid_off, reset, repair, reserve, work, unsure, off, on, no_end, end_confirmed, end_displaced, end_overdue, no_output, no_command, commands, sma_off, lz_off, lz_on, ko_off, ko_on, is_mu, is_ko, is_on, is_off, direction, own_output, opposite_output, flag, overdue_flag, bit_risen, command_risen, idle, dropped, with_mode, with_positions, with_command, with_flags, with_previous, with_status}
 
--- Step 1. End becomes 0. Reset clears flags 2 to 13.
+-- Rule 3.1: no end yet; and the twelve flags from flag 2 on, cleared while Reset is 1
 unfoldable pub flags1 : Status → ℕ → ℕ
 flags1 v word = when reset word then without_bits 2 12 v.flags else v.flags
 
 unfoldable pub status1 : Status → ℕ → Status
 status1 v word = with_flags (with_command v v.command no_end) (flags1 v word)
 
--- Step 2. OPS_1 bit 0 = 0: On switch 1 means On, 0 means Off, always sure. Bit 0 = 1: sure if the two switches differ; if not,
--- both are open, or both closed, and the reading says which (change request 1).
+-- Rule 3.2: what the switches read, the On switch alone or both by OPS_1 bit 0
 unfoldable pub read_on_switch : ℕ → Reading
 read_on_switch word = when on_switch word then On else Off
 
--- by the On switch and the Off switch: 1, true, is closed
+-- by the On switch and the Off switch, true where closed
 unfoldable pub pair_read : Bool → Bool → Reading
 pair_read true false = On
 pair_read false true = Off
@@ -39,7 +38,7 @@ read_switches word = pair_read (on_switch word) (off_switch word)
 unfoldable pub reading : Settings → ℕ → Reading
 reading s word = when ops₁ s 0 then read_switches word else read_on_switch word
 
--- the position that is read; both open and both closed give none
+-- the position that is read, none where the reading is unsure
 unfoldable pub position_read : Reading → ℕ
 position_read Off = off
 position_read On = on
@@ -55,33 +54,32 @@ both_closed On = false
 both_closed BothOpen = false
 both_closed BothClosed = true
 
--- A sure change between Off and On from the last sure position, with no command under way as the scan began (steps 1 and 2 leave the
--- command alone), sets flag 2, to On, or 3, to Off.
+-- Flags 2 and 3: a change that no command asked for. Steps 1 and 2 leave the command alone, so it is the one of the scan's beginning.
 unfoldable pub flags2 : Status → Reading → ℕ
 flags2 v r =
     when idle v && eqb v.sure off && eqb (position_read r) on then with_bit 2 v.flags
     else when idle v && eqb v.sure on && eqb (position_read r) off then with_bit 3 v.flags
     else v.flags
 
--- Unsure: position 0 if OPS_2 bit 2 = 0; else the last sure position if bit 3 = 0; else Off or On as bit 4 is 0 or 1.
+-- The position that OPS_2 pretends where the reading is unsure
 unfoldable pub pretended : Settings → ℕ → ℕ
 pretended s sure = when not (ops₂ s 2) then unsure else when not (ops₂ s 3) then sure else when ops₂ s 4 then on else off
 
--- A sure reading becomes the position and the last sure position.
+-- Both positions, by a sure reading or without one
 unfoldable pub status2 : Settings → Status → Reading → Status
 status2 s v r =
     with_flags
     (with_positions v (when is_sure r then position_read r else v.sure) (when is_sure r then position_read r else pretended s v.sure))
     (flags2 v r)
 
--- Step 3. The period is added to the sum of a command under way and of a running pulse; an idle sum stays.
--- An output is a running pulse if there is one, OPS_1 bit 6 = 1 and U > 0.
+-- Rule 2.4: running pulses
 unfoldable pub outputs_are_pulses : Settings → Bool
 outputs_are_pulses s = ops₁ s 6 && ltb 0 s.u
 
 unfoldable pub running : Settings → Output → Bool
 running s o = not (eqb o.state no_output) && outputs_are_pulses s
 
+-- Rule 3.3: both sums; one that is idle stays
 unfoldable pub step3 : Motor → ℕ → Motor
 step3 m period =
     record {
@@ -95,8 +93,7 @@ step3 m period =
           };
     }
 
--- Step 4. Command under way: a sure reading of its direction ends it, confirmed. Otherwise, if its sum is at least W (`up`), it ends
--- overdue and its flag is set.
+-- Rule 3.4, the command under way: confirmed by the reading, or else overdue if its time is up (`up`)
 unfoldable pub confirms : Reading → ℕ → Bool
 confirms r c = is_sure r && eqb (position_read r) (direction c)
 
@@ -122,8 +119,7 @@ status4 v r up = with_flags (with_command v (when ended v r up then no_command e
 unfoldable pub time_up : Motor → Bool
 time_up m = leb m.settings.w m.sum
 
--- A pulse drops when its sum is at least U, or a command of its direction is overdue now, or any command is confirmed now with OPS_1 bit
--- 7 = 1. (A held output stays.)
+-- Rule 3.4, the output: three causes for a running pulse to drop, none for a held output
 unfoldable pub pulse_over : Settings → Output → Bool
 pulse_over s o = leb s.u o.sum
 
@@ -144,18 +140,17 @@ step4 m r =
       output = when drops m r then dropped else m.output;
     }
 
--- Step 5. Flags 0, 1 and 14 are formed if OPS_2 bit 1 = 1, or bit 1 of the word = 0, or OPS_1 bit 2 = 1; otherwise they are 0.
+-- Rule 3.5: where the three flags of faults are formed at all
 unfoldable pub faults_formed : Settings → ℕ → Bool
 faults_formed s word = ops₂ s 1 || not (local_mode word) || ops₁ s 2
 
--- Flag 0: no-supply input and OPS_1 bit 1. Flag 1: unsure and no command under way.
+-- Flag 0; flag 1; flag 14
 unfoldable pub supply_fault : Settings → ℕ → Bool
 supply_fault s word = faults_formed s word && no_supply word && ops₁ s 1
 
 unfoldable pub switch_fault : Settings → Status → ℕ → Reading → Bool
 switch_fault s v word r = faults_formed s word && not (is_sure r) && idle v
 
--- Flag 14: flag 1, and both switches are closed (change request 1).
 unfoldable pub closed_fault : Settings → Status → ℕ → Reading → Bool
 closed_fault s v word r = switch_fault s v word r && both_closed r
 
@@ -167,17 +162,16 @@ unfoldable pub status5 : Settings → Status → ℕ → Reading → Status
 status5 s v word r =
     with_flags v (put_flag 14 (closed_fault s v word r) (put_flag 1 (switch_fault s v word r) (put_flag 0 (supply_fault s word) v.flags)))
 
--- Step 6. Mode changes only outside local mode, if exactly one of bits 9 to 11 has risen, no command is under way and no switching
--- command's bit has risen.
+-- Rule 3.6: how many mode keys have risen
 unfoldable pub modes_risen : Status → ℕ → ℕ
 modes_risen v word =
     (when bit_risen v word 9 then 1 else 0) + (when bit_risen v word 10 then 1 else 0) + (when bit_risen v word 11 then 1 else 0)
 
--- the mode that this one bit asks for
+-- the mode that the only one asks for
 unfoldable pub mode_asked : Status → ℕ → ℕ
 mode_asked v word = when bit_risen v word 9 then repair else when bit_risen v word 10 then reserve else work
 
--- Repair and Reserve also need position Off. Reserve needs flag 1 = 0 or OPS_1 bit 13, and flag 0 = 0 or bit 14.
+-- what each mode wants of position and faults
 unfoldable pub reserve_allowed : Settings → Status → Bool
 reserve_allowed s v = (not (flag v 1) || ops₁ s 13) && (not (flag v 0) || ops₁ s 14)
 
@@ -192,8 +186,7 @@ mode_changes s v word =
 unfoldable pub status6 : Settings → Status → ℕ → Status
 status6 s v word = with_mode v (when mode_changes s v word then mode_asked v word else v.mode)
 
--- Step 7. Acknowledging, outside local mode: KO off risen, OPS_1 bit 15 and flag 5 or 6 set: both clear. KO on risen, OPS_2 bit 0 and
--- flag 4 set: it clears.
+-- Rule 3.7: KO off acknowledges flags 5 and 6, KO on flag 4
 unfoldable pub acknowledges_off : Settings → Status → ℕ → Bool
 acknowledges_off s v word = not (local_mode word) && command_risen v word ko_off && ops₁ s 15 && (flag v 5 || flag v 6)
 
@@ -208,34 +201,34 @@ flags7 s v word =
 unfoldable pub status7 : Settings → Status → ℕ → Status
 status7 s v word = with_flags v (flags7 s v word)
 
--- That rise is then no command.
+-- a rise that acknowledges, and so is no command
 unfoldable pub acknowledges : Settings → Status → ℕ → ℕ → Bool
 acknowledges s v word c = eqb c ko_off && acknowledges_off s v word || eqb c ko_on && acknowledges_on s v word
 
--- Step 8 reads the status as step 6 left it: whether a rise acknowledged is seen by flags 4 to 6 as they stood before step 7 cleared them.
--- All else that it reads (mode, position, command, flag 0, previous word) step 7 leaves alone.
--- KO only outside, MU only in local mode.
+-- Rule 3.8. Step 8 is handed the status as step 6 left it: whether a rise acknowledged is seen by flags 4 to 6 as they stood before step 7
+-- cleared them. All else that it reads (mode, position, command, flag 0, previous word) step 7 leaves alone.
+-- What bars a risen command: local mode, or the lack of it
 unfoldable pub wrong_place : ℕ → ℕ → Bool
 wrong_place word c = is_ko c && local_mode word || is_mu c && not (local_mode word)
 
--- Forbid on bars KO on, and every on command if OPS_1 bit 5.
+-- the input that forbids on
 unfoldable pub on_forbidden : Settings → ℕ → ℕ → Bool
 on_forbidden s word c = forbid_on word && (eqb c ko_on || is_on c && ops₁ s 5)
 
--- Forbid off bars KO off, and every off command but SMA if bit 4.
+-- the input that forbids off
 unfoldable pub off_forbidden : Settings → ℕ → ℕ → Bool
 off_forbidden s word c = forbid_off word && (eqb c ko_off || is_off c && not (eqb c sma_off) && ops₁ s 4)
 
--- Flag 0 bars every on command. None in Repair.
+-- none of these, nor Repair, nor a lack of supply
 unfoldable pub admitted : Settings → Status → ℕ → ℕ → Bool
 admitted s v word c =
     not (eqb v.mode repair) && not (wrong_place word c || on_forbidden s word c || off_forbidden s word c || flag v 0 && is_on c)
 
--- Candidates are the risen commands, but for these.
+-- a candidate
 unfoldable pub candidate : Settings → Status → ℕ → ℕ → Bool
 candidate s v word c = command_risen v word c && not (acknowledges s v word c) && admitted s v word c
 
--- The candidate with the smallest number is chosen, the rest are lost.
+-- The chosen one: the strongest candidate
 unfoldable pub first_of : (ℕ → Bool) → List ℕ → ℕ
 first_of test [] = no_command
 first_of test (c ∷ cs) = when test c then c else first_of test cs
@@ -243,11 +236,11 @@ first_of test (c ∷ cs) = when test c then c else first_of test cs
 unfoldable pub chosen : Settings → Status → ℕ → ℕ
 chosen s v word = first_of (candidate s v word) commands
 
--- With no command under way it is issued unless the position is already its own.
+-- It starts, if no command is under way, from any position but its own.
 unfoldable pub starts : ℕ → ℕ → Bool
 starts new position = not (eqb new no_command) && not (eqb position (direction new))
 
--- With one under way, the old one, it is issued, and displaces it, only if its number is smaller and it has the other direction or is SMA.
+-- It displaces the old one, which is under way, if it is stronger, and of the other direction or SMA.
 unfoldable pub displaces : ℕ → ℕ → Bool
 displaces new old = not (eqb new no_command) && ltb new old && (not (eqb (direction new) (direction old)) || eqb new sma_off)
 
@@ -258,19 +251,19 @@ issues v new = when idle v then starts new v.position else displaces new v.comma
 unfoldable pub issued : Settings → Status → ℕ → ℕ
 issued s v word = when issues v (chosen s v word) then chosen s v word else no_command
 
--- Step 9. Issuing c: an on command clears flags 5 and 6, an off command flag 4. LZ on, LZ off and SMA set flags 4, 5, 6.
+-- Rule 3.9, issuing c: flags 4 to 6
 unfoldable pub flags9 : ℕ → ℕ → ℕ
 flags9 c flags =
     let f = when is_on c then without_bits 5 2 flags else without_bit 4 flags in
     when eqb c lz_on then with_bit 4 f else when eqb c lz_off then with_bit 5 f else when eqb c sma_off then with_bit 6 f else f
 
--- In Reserve, OPS_1 bits 8 to 11 turn the mode to Work at LZ on, LZ off, KO on, KO off.
+-- the mode, from Reserve to Work by the option of the command
 unfoldable pub turns_to_work : Settings → Status → ℕ → Bool
 turns_to_work s v c =
     eqb v.mode reserve
     && (eqb c lz_on && ops₁ s 8 || eqb c lz_off && ops₁ s 9 || eqb c ko_on && ops₁ s 10 || eqb c ko_off && ops₁ s 11)
 
--- A command that was under way ends displaced.
+-- One that was under way ends displaced; without one the end of step 4 stays.
 unfoldable pub issue_status : Settings → Status → ℕ → Status
 issue_status s v c =
     with_flags (with_mode (with_command v c (when idle v then v.end else end_displaced)) (when turns_to_work s v c then work else v.mode))
@@ -279,22 +272,22 @@ issue_status s v c =
 unfoldable pub status9 : Settings → Status → ℕ → Status
 status9 s v c = when eqb c no_command then v else issue_status s v c
 
--- The command's own output is raised unless it is SMA with OPS_1 bit 12 = 0, MU with bit 2 = 0, or off with bit 6 = 0.
+-- whether an output is raised: three options can keep it from that
 unfoldable pub raises : Settings → ℕ → Bool
 raises s c = not (eqb c sma_off && not (ops₁ s 12) || is_mu c && not (ops₁ s 2) || is_off c && not (ops₁ s 6))
 
--- It is a pulse, with its sum from 0, if bit 6 = 1 and U > 0, otherwise held, and a held one has sum 0: the sum is 0 either way.
+-- The pulse sum is 0 as an output is raised, whether it is a pulse or held.
 unfoldable pub raised : ℕ → Output
 raised c = record { state = own_output c; sum = 0 }
 
--- The opposite output drops; any other stays as it is, an idle sum too.
+-- Only an output that is opposite to the command drops; its own, and none, stay as they are, an idle sum too.
 unfoldable pub without_opposite : Output → ℕ → Output
 without_opposite o c = when eqb o.state (opposite_output c) then dropped else o
 
 unfoldable pub output9 : Settings → Output → ℕ → Output
 output9 s o c = when raises s c then raised c else without_opposite o c
 
--- Sum 0.
+-- the whole record, with the command's time sum from 0
 unfoldable pub issue : Motor → ℕ → Motor
 issue m c =
     record {
@@ -307,7 +300,7 @@ issue m c =
 unfoldable pub step9 : Motor → ℕ → Motor
 step9 m c = when eqb c no_command then m else issue m c
 
--- Step 10. The word becomes the previous word.
+-- Rule 3.10
 unfoldable pub status10 : Status → ℕ → Status
 status10 v word = with_previous v word
 

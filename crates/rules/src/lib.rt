@@ -52,10 +52,10 @@ pub enum Reading {
     BothClosed,
 }
 
-// What a scan, or a line of a file, is refused for, each with the number that is printed for it.
+// What a scan, or a line of a file, is refused for, each with the number that is printed for it: rule 4.2.
 #[derive(Clone, Copy, Debug, PartialEq, Eq)]
 pub enum Refusal {
-    // records and words differ in count or are too many, or a file is too long
+    // a table's counts, or a file's length
     Size = 1,
     Period = 2,
     Word = 3,

@@ -1,4 +1,4 @@
--- The paper's own file, the borders of refusal 5, words in both notations and the traps of the search for LF, by computing. Assumes nothing.
+-- The file of sheets/first.txt, the borders of refusal 5, words in both notations and the traps of the search for LF, by computing. Assumes nothing.
 use Prim.Native.Nat.{ℕ, ◌+◌, ◌*◌}
 use mathlib.Core.Path.{◌≡◌, refl}
 use mathlib.Core.List.{List, [], ◌∷◌, ◌++◌}
@@ -16,8 +16,8 @@ use Rattle.std.specs.Prelude.{Some, None}
 use Rattle.sheet.specs.declared.Request.TheVariants.{Motor, Input, Scan, Refused}
 
 -- M,1,193,0,500,300, I,1,32, S,100, I,1,4128, S,100, I,1,16, S,100
-paper : List ℕ
-paper =
+unfoldable pub first_file : List ℕ
+first_file =
     77 ∷ 44 ∷ 49 ∷ 44 ∷ 49 ∷ 57 ∷ 51 ∷ 44 ∷ 48 ∷ 44 ∷ 53 ∷ 48 ∷ 48 ∷ 44 ∷ 51 ∷ 48 ∷ 48 ∷ 10 ∷
     73 ∷ 44 ∷ 49 ∷ 44 ∷ 51 ∷ 50 ∷ 10 ∷
     83 ∷ 44 ∷ 49 ∷ 48 ∷ 48 ∷ 10 ∷
@@ -27,10 +27,10 @@ paper =
     83 ∷ 44 ∷ 49 ∷ 48 ∷ 48 ∷ 10 ∷
     []
 
-paper_read : requests_of paper
+first_read : requests_of first_file
     ≡ Motor 1 193 0 500 300 ∷ Input 1 32 ∷ Scan 100 ∷ Input 1 4128 ∷ Scan 100 ∷ Input 1 16 ∷ Scan 100 ∷ []
-unfolding opened paper
-paper_read = refl
+unfolding opened first_file
+first_read = refl
 
 -- An empty file has no lines; an empty line, and a line that lacks its LF, are refused
 no_lines : requests_of [] ≡ []

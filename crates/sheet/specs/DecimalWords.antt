@@ -1,5 +1,5 @@
--- The requests that lines make if words are decimal alone, as before change request 4. No function uses them: they say what the request left as it
--- was (print/specs/DecimalWords.antt).
+-- The requests that lines make if words are decimal alone. No function uses them: rule 7.4 says of which files they are the requests too
+-- (print/specs/DecimalWords.antt).
 use Rattle.std.specs.Prelude.{ℕ, Bool, false, ◌||◌, List, map}
 use Rattle.words.specs.Word.{when◌then◌else◌}
 use Rattle.sheet.specs.Split.{field_of}

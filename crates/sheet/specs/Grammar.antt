@@ -1,4 +1,4 @@
--- The request that a line makes, and the requests of a whole file: the paper's "The bench program's file", and its refusal 5.
+-- The request that a line makes, and the requests of a whole file: rule 7.2, and refusal 5.
 use Rattle.std.specs.Prelude.{ℕ, ◌+◌, Bool, ◌&&◌, List, [], ◌∷◌, map, length, get_or, eqb, Option, Some, None}
 use Rattle.words.specs.Word.{when◌then◌else◌}
 use Rattle.sheet.specs.Split.{field_of, field_count, between}
@@ -34,7 +34,7 @@ number_in l k = number_of (field_of l k)
 unfoldable pub word_in : List ℕ → ℕ → Option ℕ
 word_in l k = word_of (field_of l k)
 
--- What a number makes; "a field that is not a number" makes a refusal
+-- What a number makes; a field that says none makes a refusal
 unfoldable pub with_value : Option ℕ → (ℕ → Request) → Request
 with_value (Some n) make = make n
 with_value None make = Refused
@@ -62,7 +62,7 @@ input_of l = input_from (number_in l 1) (word_in l 2)
 unfoldable pub scan_of : List ℕ → Request
 scan_of l = scan_from (number_in l 1)
 
--- A line's request; "an unknown first field, a wrong field count" are refused
+-- A line's request; one of no kind is refused
 unfoldable pub request_of : List ℕ → Request
 request_of l =
     when is_kind letter_m 6 l then motor_of l
@@ -78,8 +78,8 @@ text_request faulty = Refused
 unfoldable pub requests_of : List ℕ → List Request
 requests_of file = map text_request (lines_of file)
 
--- The request at a place of a file, and the place after its line. A line that is empty, too long or without LF is refused, and then "the
--- program stops": the place after it is the file's end.
+-- The request at a place of a file, and the place after its line. A line that is empty, too long or without LF is refused, and is
+-- the last: the place after it is the file's end.
 unfoldable pub taken_at : List ℕ → ℕ → Line → Option (Request × ℕ)
 taken_at file at (Until end) = Some (request_of (between at end file), end + 1)
 taken_at file at Faulty = Some (Refused, length file)
@@ -88,7 +88,7 @@ taken_at file at End = None
 unfoldable pub next_at : List ℕ → ℕ → Option (Request × ℕ)
 next_at file at = taken_at file at (line_at file at)
 
--- The paper's number for a refused line, and 0 for any other
+-- The number of the refusal of a line that makes no request, and 0 for any other
 unfoldable pub request_refusal : Request → ℕ
 request_refusal (Motor number ops1 ops2 w u) = 0
 request_refusal (Input number word) = 0

@@ -1,4 +1,4 @@
--- The lines of a file: the paper's "The bench program's file", and of its refusal 5 "A line empty, over 80 bytes without LF, lacking LF".
+-- The lines of a file: rule 7.1.
 use Rattle.std.specs.Prelude.{ℕ, ◌+◌, Bool, ◌&&◌, List, [], ◌∷◌, length, drop, eqb, leb, ltb, Option}
 use Rattle.words.specs.Word.{when◌then◌else◌}
 use Rattle.sheet.specs.Split.{LF, split, found_byte}
@@ -18,7 +18,7 @@ pub data Text : Type 0 where
   line : List ℕ → Text
   faulty : Text
 
--- "empty, over 80 bytes without LF"
+-- neither empty nor too long
 unfoldable pub well_sized : ℕ → Bool
 well_sized n = ltb 0 n && leb n longest
 
@@ -26,13 +26,13 @@ well_sized n = ltb 0 n && leb n longest
 unfoldable pub text_of : List ℕ → Text
 text_of l = when well_sized (length l) then line l else faulty
 
--- Every part but the last is a line. What follows the last LF is none if it is empty, and otherwise a line "lacking LF".
+-- Every part but the last is a line. What follows the last LF is none if it is empty, and otherwise a line without LF.
 unfoldable pub texts_of : List (List ℕ) → List Text
 texts_of [] = []
 texts_of (last ∷ []) = when eqb (length last) 0 then [] else faulty ∷ []
 texts_of (l ∷ m ∷ rest) = text_of l ∷ texts_of (m ∷ rest)
 
--- The lines of a file. "An empty file has no lines."
+-- The lines of a file
 unfoldable pub lines_of : List ℕ → List Text
 lines_of file = texts_of (split LF file)
 

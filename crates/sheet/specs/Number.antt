@@ -1,5 +1,4 @@
--- The number that a field says: the paper's "Numbers have no sign and, but for 0 itself, no leading zero", and of its refusal 5 "a field
--- that is not a number up to 4,294,967,295". "All numbers are decimal."
+-- The number that a field says: rule 7.3.
 use Rattle.std.specs.Prelude.{ℕ, ◌+◌, ◌-◌, ◌*◌, Bool, ◌&&◌, ◌||◌, List, [], ◌∷◌, length, get_or, eqb, leb, ltb, Option, None}
 use Rattle.std.specs.Bool.{then_some}
 use Rattle.std.specs.List.{list_all}
@@ -18,7 +17,7 @@ unfoldable pub value_from : ℕ → List ℕ → ℕ
 value_from v [] = v
 value_from v (b ∷ bs) = value_from (v * 10 + (b - 48)) bs
 
--- "a number up to 4,294,967,295"
+-- the largest that is read
 abbrev pub largest : ℕ
 largest = 4294967295
 

@@ -1,5 +1,4 @@
--- A list of bytes, parted at a byte: the lines of a file at LF, the fields of a line at commas. The paper's "The bench program's file":
--- "Lines end in LF; fields stand in fixed order, parted by commas, no quoting."
+-- A list of bytes, parted at a byte: the lines of a file at LF, rule 7.1, the fields of a line at commas, rule 7.2.
 use Rattle.std.specs.Prelude.{ℕ, suc, ◌+◌, ◌-◌, List, [], ◌∷◌, ◌++◌, length, take, drop, get_or, eqb, ltb, Option}
 use Rattle.std.specs.Bool.{then_some}
 use Rattle.words.specs.Word.{when◌then◌else◌}
@@ -42,7 +41,7 @@ found_byte file at b =
 unfoldable pub between : ℕ → ℕ → List ℕ → List ℕ
 between from to xs = take (to - from) (drop from xs)
 
--- "A field is that part of the line between its commas." Fields are numbered from 0. A field that a line does not have is empty.
+-- A field of a line. Fields are numbered from 0; one that a line does not have is empty.
 unfoldable pub field_of : List ℕ → ℕ → List ℕ
 field_of line k = get_or (split comma line) k []
 

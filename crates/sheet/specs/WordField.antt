@@ -1,6 +1,5 @@
--- The word that a field says: OPS_1 and OPS_2 of an M line, and the word of an I line. Other fields are numbers (Number.antt). Change request 4:
--- wiring sheets print a word "with 0x and one to eight digits, capital letters only"; "Leading zeros are allowed after 0x." A field without 0x is a
--- number, as it was before.
+-- The word that a field says, rule 7.4: OPS_1 and OPS_2 of an M line, and the word of an I line. Other fields are numbers (Number.antt), and so is
+-- a word without 0x.
 use Rattle.std.specs.Prelude.{ℕ, zero, suc, ◌+◌, ◌-◌, ◌*◌, ◌/◌, ◌%◌, Bool, ◌&&◌, ◌||◌, List, [], ◌∷◌, ◌++◌, length, drop, get_or, eqb, leb, ltb, Option}
 use Rattle.std.specs.Bool.{then_some}
 use Rattle.std.specs.List.{list_all}
@@ -23,7 +22,7 @@ unfoldable pub hex_from : ℕ → List ℕ → ℕ
 hex_from v [] = v
 hex_from v (b ∷ bs) = hex_from (v * 16 + hex_digit b) bs
 
--- "one to eight digits"
+-- as many digits as a word may have
 unfoldable pub is_hex_count : ℕ → Bool
 is_hex_count n = leb 1 n && leb n 8
 
@@ -31,7 +30,7 @@ is_hex_count n = leb 1 n && leb n 8
 unfoldable pub hex_number : List ℕ → Option ℕ
 hex_number digits = then_some (is_hex_count (length digits) && all_hex_digits digits) (hex_from 0 digits)
 
--- "with 0x": the bytes 48 and 120 come first
+-- 0x: the bytes 48 and 120 come first
 unfoldable pub has0x : List ℕ → Bool
 has0x field = eqb (get_or field 0 0) 48 && eqb (get_or field 1 0) 120
 

@@ -77,7 +77,7 @@ pub fn request_at(file: &[u8], at: usize) -> Option<(Request, usize)>
     }
 }
 
-// Whether a line makes a request at all; the paper's refusal of one that makes none.
+// Whether a line makes a request at all, or the refusal of one that makes none.
 #[tactic(auto, unfolding(crate::specs::Grammar::request_refusal))]
 pub fn accept(request: Request) -> Result<(), Refusal>
     ensures { code_of result ≡ request_refusal request }

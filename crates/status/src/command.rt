@@ -7,7 +7,7 @@ ghost use Rattle.rules.specs.Record.{direction, is_on, is_off, is_mu, is_ko, inp
 use rules::Status;
 use words::has_risen;
 
-// Direction, 1 off or 2 on, and input bit, by number, in constant arrays as the paper asks. No command has direction 0 and bit 32, which is
+// Direction, 1 off or 2 on, and input bit, by number, in constant arrays. No command has direction 0 and bit 32, which is
 // not in any word: with these the tests of a command hold for any number, where an Option would be asked for in each.
 const DIRECTIONS: [u32; 8] = [0, 1, 1, 2, 1, 2, 1, 2];
 

@@ -1,6 +1,5 @@
 // Scans over lent records, and one over an array by value.
-// Records, words and period go side by side, and so do an array, its count and its words: the paper names these forms, the array for
-// fixed memory, and a caller that lends its motors keeps their words.
+// Records, words and period go side by side, and so do an array, its count and its words: a caller that lends its motors keeps their words.
 #![tactic(auto)]
 
 ghost use Rattle.std.specs.Prelude.{◌≡◌};

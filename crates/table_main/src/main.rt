@@ -11,7 +11,7 @@ ghost use Rattle.rules.specs.Refusals.{part_refusal, part_after};
 use rules::{Motor, Refusal, Settings};
 use table::MOST_MOTORS;
 
-// The first `count` of 32 motors with the paper's settings but for OPS_1, fresh, through one scan.
+// The first `count` of 32 motors with the settings of the sheets in docs/RULES.md but for OPS_1, fresh, through one scan.
 fn scan_fresh(
     ops1: u32,
     count: usize,

@@ -22,10 +22,10 @@ infixl 50 ◌▸◌for◌
 abbrev ◌▸◌for◌ : Log Input → ℕ → ℕ → Log Input
 ◌▸◌for◌ h word period = h ▸ record { word = word; period = period }
 
--- the request's own: KO on is issued in scan 2, and confirmed in scan 3
-asked : numbers_of (wired 0 500) (none ▸ 32 for 100 ▸ 4128 for 100 ▸ 16 for 100) ≡ 1 ∷ 1 ∷ 0 ∷ 0 ∷ 0 ∷ 100 ∷ 100 ∷ 100 ∷ []
+-- sheets/first.txt: KO on is issued in scan 2, and confirmed in scan 3
+first : numbers_of (wired 0 500) (none ▸ 32 for 100 ▸ 4128 for 100 ▸ 16 for 100) ≡ 1 ∷ 1 ∷ 0 ∷ 0 ∷ 0 ∷ 100 ∷ 100 ∷ 100 ∷ []
 unfolding opened rules-opened numbers_of
-asked = refl
+first = refl
 
 never_scanned : numbers_of (wired 0 500) none ≡ 0 ∷ 0 ∷ 0 ∷ 0 ∷ 0 ∷ 0 ∷ 0 ∷ 0 ∷ []
 unfolding opened rules-opened numbers_of

@@ -1,4 +1,4 @@
--- Running totals, kept scan by scan in place of the history. No rule of the request: proofs/Running.antt shows that they are the totals of
+-- Running totals, kept scan by scan in place of the history. They are no rule: proofs/Running.antt shows that they are the totals of
 -- the history. They are 32-bit words and stop at the largest, which no file is long enough to reach (print/proofs/Histories.antt).
 use Rattle.std.specs.Prelude.{ℕ, ◌+◌, min, max, Bool, not, ◌&&◌, ◌||◌, List, [], ◌∷◌, eqb}
 use Rattle.words.specs.Word.{when◌then◌else◌}

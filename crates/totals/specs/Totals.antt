@@ -1,5 +1,5 @@
--- The totals of a sitting (change request 2): `T,number,issued,confirmed,displaced,overdue,under way,on,best,worst`. Each is taken by itself
--- from a motor's settings and history, and from the book of commands that is kept from these. Times are milliseconds.
+-- The totals of a motor, rule 8.3. Each is taken by itself from settings and history, and from the book of commands that is kept from these.
+-- Times are milliseconds.
 use Rattle.std.specs.Prelude.{ℕ, ◌+◌, min, max, Bool, not, ◌&&◌, List, [], ◌∷◌, eqb}
 use Rattle.words.specs.Word.{when◌then◌else◌}
 use Rattle.rules.specs.declared.Settings.{Settings}
@@ -44,13 +44,13 @@ under_way_in v = when idle v then 0 else 1
 unfoldable pub under_way_of : Settings → Log Input → ℕ
 under_way_of s h = under_way_in (book_of s h).status
 
--- On: the sum of the periods of all scans with a sure On reading. A pretended position does not count.
+-- On: what the periods of the scans come to that read On. A pretended position does not count.
 unfoldable pub on_of : Settings → Log Input → ℕ
 on_of s none = 0
 on_of s (h ▸ x) = on_of s h + (when eqb (position_read (reading s x.word)) on then x.period else 0)
 
--- The time from issue to confirmation of each command that was confirmed, the last of them first: the periods of the scans after the one that
--- issued it, up to and with the one that confirmed it. `book_of s h` has it under way.
+-- The time from issue to confirmation of each command that was confirmed, the last of them first. Where the scan x confirms one, `book_of s h`
+-- has it under way.
 unfoldable pub times_of : Settings → Log Input → List ℕ
 times_of s none = []
 times_of s (h ▸ x) = when last_ended end_confirmed s (h ▸ x) then since (book_of s h).issue (h ▸ x) ∷ times_of s h else times_of s h
@@ -65,7 +65,7 @@ unfoldable pub greatest : List ℕ → ℕ
 greatest [] = 0
 greatest (n ∷ ns) = max n (greatest ns)
 
--- Best and worst time from issue to confirmation
+-- Best and worst of these times
 unfoldable pub best_of : Settings → Log Input → ℕ
 best_of s h = least (times_of s h)
 

@@ -1,4 +1,4 @@
--- What is recorded is read back: the time scale, the wires of the motors, and at each time the signals after "the last scan not later than it"; of
+-- What is recorded is read back: the time scale, the wires of the motors, and at each time the signals that the last scan up to it left; of
 -- no other code anything is said. Assumes nothing.
 use Prim.Native.Nat.{ℕ, zero, suc, ◌+◌, ◌*◌, ◌<◌, ◌≤◌}
 use mathlib.Core.Path.{◌≡◌, refl, ap, ◌∙◌}

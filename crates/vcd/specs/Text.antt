@@ -1,4 +1,4 @@
--- The text of a value change dump (IEEE 1364), as change request 5 gives it: words parted by blanks, in lines.
+-- The text of a value change dump (IEEE 1364): rules 9.1 to 9.3. Words are parted by blanks, in lines.
 use Rattle.std.specs.Prelude.{ℕ, zero, suc, ◌+◌, Bool, not, List, [], ◌∷◌, ◌++◌}
 use Rattle.std.specs.Bool.{beq}
 use Rattle.words.specs.Word.{when◌then◌else◌}
@@ -56,7 +56,7 @@ word_enddefinitions = 36 ∷ 101 ∷ 110 ∷ 100 ∷ 100 ∷ 101 ∷ 102 ∷ 105
 abbrev pub word_end : List ℕ
 word_end = 36 ∷ 101 ∷ 110 ∷ 100 ∷ []
 
--- "Signal i, counted from 0 .. has the character of code 33 + i."
+-- The code of signal i, one character
 unfoldable pub code_of : ℕ → List ℕ
 code_of i = (33 + i) ∷ []
 
@@ -114,12 +114,12 @@ changes_from i [] ws = []
 changes_from i (v ∷ vs) [] = []
 changes_from i (v ∷ vs) (w ∷ ws) = change_line (code_of i) v w ++ changes_from (i + 1) vs ws
 
--- A time before its changes, "if there are any"
+-- A time before its changes; without changes nothing
 unfoldable pub timed : ℕ → List ℕ → List ℕ
 timed time [] = []
 timed time (b ∷ bs) = time_line time ++ b ∷ bs
 
--- Header and #0: "all outputs as they are then", On and Off of so many motors
+-- Header and #0: On and Off of so many motors
 unfoldable pub opening_of : ℕ → List Bool → List ℕ
 opening_of motors signals = header_of motors ++ time_line 0 ++ values_from 0 signals
 
@@ -128,7 +128,7 @@ pub record Sample : Type 0 where
   pub time : ℕ
   pub signals : List Bool
 
--- "A later time .. printed with the changed signals alone, by number, if there are any"
+-- The later times, each with what changed in its scan
 unfoldable pub samples_text : List Bool → List Sample → List ℕ
 samples_text before [] = []
 samples_text before (s ∷ ss) = timed s.time (changes_from 0 before s.signals) ++ samples_text s.signals ss
