@@ -109,9 +109,9 @@ impl Book {
         copy == *record
     }
 
-    /// The paper's bound on every chain so far: if the periods after the scan
-    /// that issued it reach seven times the sum of W and the longest of them,
-    /// its last command has ended within that time, confirmed or overdue.
+    /// The bound on every chain so far, rule 6.4: if the periods after the scan
+    /// that issued it reach 7 × (W + L), L the longest of them, its last command
+    /// has ended within that time, confirmed or overdue.
     pub fn bound_holds(&self) -> bool {
         self.chains.iter().all(|chain| {
             let later = &self.history[chain.first..];

@@ -1,4 +1,4 @@
-//! The second program (change request 5): a whole file in, the value change dump
+//! The second program (rule 9): a whole file in, the value change dump
 //! of its outputs out.
 
 use crate::file::{lines, Bench, Done, FILE_LIMIT};

@@ -29,7 +29,7 @@ pub enum Done {
 /// The greatest file that is read.
 pub const FILE_LIMIT: usize = 65_536;
 
-/// "Numbers have no sign and, but for 0 itself, no leading zero", and go up to
+/// A number (rule 7.3): digits alone, none of them a 0 in front, up to
 /// 4,294,967,295.
 pub fn number(field: &[u8]) -> Option<u32> {
     match field {
@@ -44,7 +44,7 @@ pub fn number(field: &[u8]) -> Option<u32> {
     }
 }
 
-/// A field for the bits of OPS_1, OPS_2 or an input word (change request 4): a
+/// A field for the bits of OPS_1, OPS_2 or an input word (rule 7.4): a
 /// number as everywhere, or `0x` in just this writing and after it one to eight
 /// of the digits 0 to 9 and A to F, with zeros in front or not.
 pub fn word(field: &[u8]) -> Option<u32> {

@@ -1,9 +1,8 @@
 //! A second model of the motor bench, to run the bench program against.
 //!
-//! It was written from the paper "The motor block of the certificate bench"
-//! and the change requests, apart from the proved code and without sight of
-//! it. It shares no source with that code, so that a slip on one side shows
-//! as a difference between the prints.
+//! It was written from the rules, apart from the proved code and without
+//! sight of it. It shares no source with that code, so that a slip on one side
+//! shows as a difference between the prints.
 //!
 //! * [`record`]: a motor's record as plain numbers, with its ranges;
 //! * [`rules`]: the ten steps of one scan, in named values instead of bits;
@@ -13,7 +12,7 @@
 //! * [`viewer`]: a reader of value change dumps, whoever wrote them;
 //! * [`book`]: the book of commands, kept from a motor's history alone;
 //! * [`totals`]: the totals of a sitting, counted from the book;
-//! * [`paper`]: the sheets of the paper and a few worked by hand;
+//! * [`sheets`]: the sheets of the rule book and others worked by hand;
 //! * [`ends`]: files with an LF at each of the first places;
 //! * [`words`]: files with each way of writing a word, right and wrong;
 //! * [`story`]: random files, whole and damaged, repeatable from a seed;
@@ -41,9 +40,9 @@ pub mod ends;
 pub mod fast;
 pub mod file;
 pub mod outside;
-pub mod paper;
 pub mod record;
 pub mod rules;
+pub mod sheets;
 pub mod shrink;
 pub mod story;
 pub mod tally;

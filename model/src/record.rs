@@ -1,4 +1,4 @@
-//! A motor's record as the paper lists it, every field a plain number, so that
+//! A motor's record (rule 2.1), every field a plain number, so that
 //! any content can be written down, in range or not.
 
 /// Settings and state of one motor.
@@ -35,7 +35,7 @@ pub struct Record {
 pub const SETTING_LIMITS: [u32; 4] = [65_535, 31, 600_000, 600_000];
 
 impl Record {
-    /// "A fresh record is Work, all else 0."
+    /// A fresh record (rule 2.3): Work, and nothing else in it.
     pub fn fresh(ops_1: u32, ops_2: u32, wait: u32, pulse: u32) -> Record {
         Record {
             ops_1,

@@ -51,7 +51,7 @@ use Command::*;
 impl Command {
     pub const STRONGEST_FIRST: [Command; 7] = [SmaOff, LzOff, LzOn, MuOff, MuOn, KoOff, KoOn];
 
-    /// The paper's number, 1 to 7.
+    /// Its number, 1 to 7 (rule 1.7).
     pub fn number(self) -> u32 {
         match self {
             SmaOff => 1,
@@ -174,7 +174,7 @@ impl Places {
     }
 }
 
-/// An input word, spelled out. Also used for "what has risen".
+/// An input word, spelled out. Also used for what has risen.
 #[derive(Clone, Copy, Debug, PartialEq, Eq)]
 pub struct Input {
     pub sma: bool,
@@ -243,7 +243,7 @@ pub struct Change {
 }
 
 impl Change {
-    /// "Rising means 1 now and 0 in the last accepted scan."
+    /// Rising (rule 1.6).
     fn rose(&self, bit: impl Fn(&Input) -> bool) -> bool {
         bit(&self.now) && !bit(&self.before)
     }
@@ -630,7 +630,7 @@ fn switch_output(drive: &mut Drive, settings: &Settings, command: Command, trace
         || (command.is_mu() && !settings.local_through_block)
         || (own == Way::Off && !settings.two_outputs);
     if !silent {
-        // A pulse starts from 0, and "a held one has sum 0".
+        // Held or a pulse, it starts from 0 (rule 3.9).
         drive.output = Some(own);
         drive.pulse_sum = 0;
         trace.raised_pulse = settings.pulses();

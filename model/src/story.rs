@@ -48,7 +48,7 @@ impl Dice {
     }
 }
 
-/// Bits of the input word by the paper's list.
+/// Bits of the input word (rule 1.5).
 mod bit {
     pub const SMA: u32 = 1;
     pub const LOCAL: u32 = 1 << 1;

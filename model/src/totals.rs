@@ -1,4 +1,4 @@
-//! The totals of a sitting (change request 2), each counted by itself from a
+//! The totals of a sitting (rule 8.3), each counted by itself from a
 //! motor's history. Nothing is carried along from scan to scan.
 
 use crate::book::Book;

@@ -1,5 +1,5 @@
 //! Files in which the ways of writing a word are gone through one by one, those
-//! of change request 4 and others, wherever a field stands.
+//! of rule 7.4 and others, wherever a field stands.
 
 /// Fields that are no word, though many nearly are.
 pub const ODD: [&[u8]; 88] = [

@@ -1,8 +1,8 @@
-//! The dump of the outputs, change request 5. Every dump here comes from the
+//! The dump of the outputs, rule 9. Every dump here comes from the
 //! model and from the fast version alike, and is read back.
 
 use motor_model::dump::{read_back, run, Outputs};
-use motor_model::paper::{dump_sheets, longest_dump, more_sheets, sheets};
+use motor_model::sheets::{dump_sheets, given_sheets, longest_dump, more_sheets};
 use motor_model::viewer::Wave;
 use motor_model::{ends, fast, story, words};
 
@@ -19,7 +19,7 @@ fn dump(file: &[u8]) -> String {
 #[test]
 fn the_dump_of_the_request() {
     let file = "M,1,193,0,500,300\nI,1,32\nS,100\nI,1,4128\nS,100\nI,1,16\nS,100\n";
-    assert_eq!(file, sheets()[0].file);
+    assert_eq!(file, given_sheets()[0].file);
     let expected = "\
 $timescale 1 ms $end
 $scope module bench $end
@@ -70,7 +70,7 @@ fn thirty_two_motors() {
     assert_eq!(wave.signals[63].code, "`");
 }
 
-/// "over 65,536 bytes there is none"
+/// A file of one byte more has no dump.
 #[test]
 fn the_greatest_file() {
     let mut file = b"M,1,193,0,500,0\nI,1,4128\nS,1000\n".to_vec();
@@ -164,10 +164,10 @@ fn outputs_of_the_print() {
 
 #[test]
 fn model_and_fast_version() {
-    for sheet in sheets().into_iter().chain(more_sheets()) {
+    for sheet in given_sheets().into_iter().chain(more_sheets()) {
         dump(sheet.file.as_bytes());
     }
-    for file in ends::files(sheets()[0].file.as_bytes()).into_iter().chain(words::files()) {
+    for file in ends::files(given_sheets()[0].file.as_bytes()).into_iter().chain(words::files()) {
         dump(&file);
     }
     for index in 0..3000 {

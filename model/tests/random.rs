@@ -42,7 +42,7 @@ fn records_and_books() {
     }
 }
 
-/// What the paper says of every record that began fresh.
+/// What holds of every record that began fresh.
 fn tidy(record: &Record) {
     let pulses = record.ops_1 & 64 != 0 && record.pulse > 0;
     assert!(record.command != 0 || record.sum == 0);

@@ -1,5 +1,5 @@
-//! Edge cases of the ten steps, each with the sentence it rests on; those of
-//! change request 1 after step 5.
+//! Edge cases of the ten steps (rules 3.1 to 3.10), each with what it is about;
+//! those of both open and both closed after step 5.
 
 use motor_model::record::Record;
 use motor_model::rules::{scan_one, scan_table};
@@ -54,7 +54,7 @@ fn play(record: &mut Record, words: &[u32]) -> Record {
 
 // Step 1
 
-/// "End becomes 0."
+/// Step 1 forgets the end of the scan before.
 #[test]
 fn an_end_lasts_one_scan() {
     let mut m = usual();
@@ -62,7 +62,7 @@ fn an_end_lasts_one_scan() {
     assert_eq!(play(&mut m, &[ON]).end, 0);
 }
 
-/// "Reset clears flags 2 to 13.": not on a rise, but whenever it is 1, and
+/// What Reset clears: not on a rise, but whenever it is 1, and
 /// before step 2 sets new ones.
 #[test]
 fn reset() {
@@ -92,7 +92,7 @@ fn reset_before_acknowledging() {
 
 // Step 2
 
-/// "OPS_1 bit 0 = 0: On switch 1 means On, 0 means Off, always sure."
+/// One switch: whatever the other does, the reading is sure.
 #[test]
 fn one_switch() {
     for (word, position) in [(0, 1), (OFF, 1), (ON, 2), (ON | OFF, 2)] {
@@ -101,7 +101,7 @@ fn one_switch() {
     }
 }
 
-/// "A sure change between Off and On from the last sure position": the first
+/// A change needs a sure position to come from: the first
 /// reading is none, and unsure scans in between do not hide one.
 #[test]
 fn unsanctioned() {
@@ -111,7 +111,7 @@ fn unsanctioned() {
     assert_eq!(play(&mut usual(), &[ON, 0, ON]).flags, 0);
 }
 
-/// "with no command under way as the scan began": a command that ends in this
+/// The command that counts is the one of the scan's beginning: one that ends in this
 /// very scan still counts as under way, one issued in it does not.
 #[test]
 fn unsanctioned_and_a_command() {
@@ -127,8 +127,7 @@ fn unsanctioned_and_a_command() {
     assert_eq!((m.command, m.flags), (6, 4));
 }
 
-/// "Unsure: position 0 if OPS_2 bit 2 = 0; else the last sure position if bit
-/// 3 = 0; else Off or On as bit 4 is 0 or 1."
+/// The positions that OPS_2 pretends, by each setting of its bits 2 to 4.
 #[test]
 fn pretending() {
     let cases: [(&[u32], u32, u32); 6] =
@@ -139,7 +138,7 @@ fn pretending() {
         assert_eq!(m.last_sure, 0);
         assert_eq!(play(&mut m, &[ON, ON | OFF]).position, after_on);
         assert_eq!(m.last_sure, 2);
-        // "Flag 1: unsure", which a pretended position does not cure.
+        // Flag 1 goes by the reading, which a pretended position does not cure.
         assert_eq!(m.flags, FLAG_14 + 2);
         assert_eq!(play(&mut m, &[0]).flags, 2);
     }
@@ -147,7 +146,7 @@ fn pretending() {
 
 // Steps 3 and 4
 
-/// "if its sum is at least W": the scan that issues does not count.
+/// Time is up at W, and not one before: the scan that issues does not count.
 #[test]
 fn at_least_w() {
     let mut m = motor(&[0], &[], 500, 0);
@@ -158,7 +157,7 @@ fn at_least_w() {
     assert_eq!((m.command, m.sum, m.end, m.flags), (0, 0, 3, 8192));
 }
 
-/// "Otherwise": confirmed goes before overdue.
+/// Confirmed goes before overdue.
 #[test]
 fn confirmed_before_overdue() {
     let mut m = motor(&[0], &[], 0, 0);
@@ -166,7 +165,7 @@ fn confirmed_before_overdue() {
     assert_eq!((m.end, m.flags), (1, 0));
 }
 
-/// "Sums are at most 599,999": W and U of 600,000 end at 600,000.
+/// No sum is left at 600,000: with W and U at their limit both end there.
 #[test]
 fn longest_times() {
     let mut m = motor(&[0, 6], &[], 600_000, 600_000);
@@ -180,7 +179,7 @@ fn longest_times() {
     assert_eq!((m.sum, m.pulse_sum, m.command, m.output, m.end), (0, 0, 0, 0, 3));
 }
 
-/// "A pulse drops when its sum is at least U": the command goes on.
+/// A pulse that has lasted for U drops, and the command goes on.
 #[test]
 fn pulse_ends_before_the_command() {
     let mut m = usual();
@@ -190,7 +189,7 @@ fn pulse_ends_before_the_command() {
     assert_eq!((m.output, m.pulse_sum, m.command, m.sum), (0, 0, 7, 300));
 }
 
-/// "or any command is confirmed now with OPS_1 bit 7 = 1"; without the bit the
+/// A confirmation drops any pulse, by OPS_1 bit 7; without the bit the
 /// pulse goes on after the command.
 #[test]
 fn pulse_and_confirming() {
@@ -203,7 +202,7 @@ fn pulse_and_confirming() {
     assert_eq!((m.output, m.pulse_sum), (0, 0));
 }
 
-/// "or a command of its direction is overdue now"
+/// An overdue command drops a pulse of its own direction.
 #[test]
 fn pulse_and_overdue() {
     let mut m = motor(&[0, 6], &[], 100, 300);
@@ -218,7 +217,7 @@ fn pulse_and_overdue() {
     assert_eq!(play(&mut lent, &[OFF]).output, 0);
 }
 
-/// "a held one has sum 0", and nothing in step 4 drops it.
+/// A held output has no sum, and nothing in step 4 drops it.
 #[test]
 fn held_output() {
     for ops_1 in [&[0, 6, 7][..], &[0, 7]] {
@@ -234,8 +233,8 @@ fn held_output() {
 
 // Step 5
 
-/// "formed if OPS_2 bit 1 = 1, or bit 1 of the word = 0, or OPS_1 bit 2 = 1;
-/// otherwise both are 0"
+/// Where flags of faults are formed: outside local mode, and in it by either of
+/// two options.
 #[test]
 fn forming() {
     let word = LOCAL | NO_SUPPLY;
@@ -248,7 +247,7 @@ fn forming() {
     assert_eq!(play(&mut motor(&[0, 1], &[], 0, 0), &[NO_SUPPLY, word]).flags, 0);
 }
 
-/// "Flag 1: unsure and no command under way": as step 4 leaves it, before
+/// Flag 1 asks for no command under way: as step 4 leaves it, before
 /// step 8 issues one.
 #[test]
 fn switch_fault_and_commands() {
@@ -259,7 +258,7 @@ fn switch_fault_and_commands() {
     assert_eq!((m.command, m.flags), (7, 2));
 }
 
-// Change request 1: both open or both closed
+// Both open or both closed
 
 /// Flag 14 stands with flag 1 when both switches are closed, never when both
 /// are open, and follows each next reading.
@@ -406,7 +405,7 @@ fn refused_with_both_closed() {
 
 // Step 6
 
-/// "if exactly one of bits 9 to 11 has risen": one held down does not count.
+/// One mode key has to rise alone: one held down does not count.
 #[test]
 fn one_key() {
     assert_eq!(play(&mut usual(), &[OFF | RESERVE]).mode, 1);
@@ -418,8 +417,8 @@ fn one_key() {
     assert_eq!(play(&mut m, &[OFF | REPAIR, OFF | REPAIR | RESERVE]).mode, 1);
 }
 
-/// "only outside local mode", "no command is under way and no switching
-/// command's bit has risen", whether or not that rise could be a command.
+/// Local mode, a command under way and a risen bit of any command each keep the
+/// mode, whether or not that rise could be a command.
 #[test]
 fn quiet_keys() {
     assert_eq!(play(&mut usual(), &[OFF | RESERVE | LOCAL]).mode, 2);
@@ -438,8 +437,8 @@ fn quiet_keys() {
     assert_eq!((m.end, m.mode), (3, 1));
 }
 
-/// "Repair and Reserve also need position Off": the position, which OPS_2 may
-/// pretend. Work needs none.
+/// Repair and Reserve are for position Off, which OPS_2 may pretend. Work needs
+/// none.
 #[test]
 fn keys_and_position() {
     for (word, reserve, work) in [(ON, 2, 2), (OFF, 1, 2), (0, 2, 2)] {
@@ -453,7 +452,7 @@ fn keys_and_position() {
     assert_eq!(play(&mut motor(&[0], &[2, 3], 0, 0), &[REPAIR]).mode, 0);
 }
 
-/// "Reserve needs flag 1 = 0 or OPS_1 bit 13, and flag 0 = 0 or bit 14."
+/// Faults bar Reserve, each unless its option lets it.
 #[test]
 fn reserve_and_flags() {
     // Pretending Off while unsure: flag 1.
@@ -472,8 +471,7 @@ fn reserve_and_flags() {
 
 // Step 7
 
-/// "KO off risen, OPS_1 bit 15 and flag 5 or 6 set: both clear." "That rise is
-/// then no command."
+/// KO off acknowledges flags 5 and 6, and is no command then.
 #[test]
 fn acknowledging_off() {
     for flags in [32, 64, 96] {
@@ -491,7 +489,7 @@ fn acknowledging_off() {
     }
 }
 
-/// "KO on risen, OPS_2 bit 0 and flag 4 set: it clears."
+/// KO on acknowledges flag 4.
 #[test]
 fn acknowledging_on() {
     let lent = Record { flags: 16, ..motor(&[0, 6], &[0], 500, 300) };
@@ -516,7 +514,7 @@ fn acknowledging_anywhere() {
 
 // Step 8
 
-/// "none in Repair", SMA included.
+/// Repair lets no command, SMA included.
 #[test]
 fn nothing_in_repair() {
     for command in [SMA, LZ_ON, LZ_OFF, KO_ON, KO_OFF, LOCAL | MU_ON, LOCAL | MU_OFF] {
@@ -527,7 +525,7 @@ fn nothing_in_repair() {
     }
 }
 
-/// "KO only outside, MU only in local mode"
+/// Local mode parts KO and MU.
 #[test]
 fn local_mode() {
     assert_eq!(play(&mut usual(), &[OFF | KO_ON | LOCAL]).command, 0);
@@ -538,8 +536,7 @@ fn local_mode() {
     assert_eq!(play(&mut usual(), &[OFF | MU_ON, OFF | MU_ON | LOCAL]).command, 0);
 }
 
-/// "forbid on bars KO on, and every on command if OPS_1 bit 5; forbid off bars
-/// KO off, and every off command but SMA if bit 4"
+/// What the two inputs that forbid bar, without their options and with them.
 #[test]
 fn forbids() {
     let on = [(KO_ON, 7), (LZ_ON, 3), (LOCAL | MU_ON, 5)];
@@ -562,7 +559,7 @@ fn forbids() {
     }
 }
 
-/// "flag 0 bars every on command": the flag as this scan's step 5 forms it.
+/// A lack of supply bars on commands: the flag as this scan's step 5 forms it.
 #[test]
 fn no_supply() {
     for word in [KO_ON, LZ_ON] {
@@ -578,7 +575,7 @@ fn no_supply() {
     assert_eq!(play(&mut usual(), &[ON | OFF, ON | OFF | KO_ON]).command, 7);
 }
 
-/// "The candidate with the smallest number is chosen, the rest are lost."
+/// Candidates that are not chosen are lost.
 #[test]
 fn the_rest_are_lost() {
     // LZ off is chosen and is where the motor already stands: LZ on is lost.
@@ -589,7 +586,7 @@ fn the_rest_are_lost() {
     assert_eq!(play(&mut motor(&[0, 4], &[], 500, 0), &[OFF | LZ_OFF | LZ_ON | FORBID_OFF]).command, 3);
 }
 
-/// "it is issued unless the position is already its own": unsure is nobody's,
+/// A command to where the motor stands is not issued: unsure is nobody's place,
 /// a pretended one counts.
 #[test]
 fn already_there() {
@@ -602,8 +599,7 @@ fn already_there() {
     assert_eq!(play(&mut motor(&[0], &[2, 3, 4], 500, 0), &[KO_OFF]).command, 6);
 }
 
-/// "only if its number is smaller and it has the other direction or is SMA":
-/// every pair of commands.
+/// What displaces what: every pair of commands.
 #[test]
 fn displacing() {
     let list = [(SMA, 0), (LZ_OFF, 0), (LZ_ON, 1), (MU_OFF, 0), (MU_ON, 1), (KO_OFF, 0), (KO_ON, 1)];
@@ -644,8 +640,7 @@ fn end_and_issue_in_one_scan() {
 
 // Step 9
 
-/// "An on command clears flags 5 and 6, an off command flag 4. LZ on, LZ off
-/// and SMA set flags 4, 5, 6."
+/// Flags 4 to 6, at the issue of each command.
 #[test]
 fn marks() {
     let cases = [
@@ -662,8 +657,8 @@ fn marks() {
     }
 }
 
-/// "The opposite output drops. The command's own output is raised unless it is
-/// SMA with OPS_1 bit 12 = 0, MU with bit 2 = 0, or off with bit 6 = 0."
+/// The outputs at the issue of each command, by the three options that keep one
+/// from being raised.
 #[test]
 fn raising() {
     let off = [(ON | SMA, 1), (ON | LZ_OFF, 2), (ON | LOCAL | MU_OFF, 4), (ON | KO_OFF, 6)];
@@ -698,8 +693,7 @@ fn own_output_already_out() {
     assert_eq!((m.command, m.end, m.sum, m.output, m.pulse_sum), (1, 2, 0, 2, 0));
 }
 
-/// "In Reserve, OPS_1 bits 8 to 11 turn the mode to Work at LZ on, LZ off, KO
-/// on, KO off."
+/// From Reserve to Work: each of four options at its own command.
 #[test]
 fn reserve_to_work() {
     let list = [(OFF | LZ_ON, 8), (ON | LZ_OFF, 9), (OFF | KO_ON, 10), (ON | KO_OFF, 11)];
@@ -719,7 +713,7 @@ fn reserve_to_work() {
     }
 }
 
-/// Bit 3 of OPS_1 is written nowhere in the paper: it does nothing.
+/// Bit 3 of OPS_1 does nothing (rule 1.3).
 #[test]
 fn bit_3() {
     let words = [OFF, OFF | LZ_ON, ON, ON | LZ_OFF, OFF, OFF | RESERVE, OFF | LZ_ON, ON];
@@ -732,7 +726,7 @@ fn bit_3() {
 
 // Step 10 and lent records
 
-/// "The word becomes the previous word": all of it, at every accepted scan.
+/// The previous word is all of the last word, at every accepted scan.
 #[test]
 fn previous_word() {
     let mut m = usual();
@@ -741,7 +735,7 @@ fn previous_word() {
     assert_eq!(m.previous, 131_071);
 }
 
-/// "an idle sum (no command, or no running pulse) stays until a step sets it"
+/// Idle sums stay (rule 2.6).
 #[test]
 fn idle_sums() {
     // No command: its sum stays, and issuing sets it.
@@ -762,7 +756,7 @@ fn idle_sums() {
         assert_eq!((m.output, m.pulse_sum), (1, 77));
         // Dropping sets it.
         assert_eq!(step(&mut lent.clone(), ON | SMA, 1).pulse_sum, 0);
-        // Raising a held output leaves "sum 0" too.
+        // Raising a held output leaves its sum 0 too.
         let mut idle = Record { output: 0, pulse_sum: 77, ..record };
         let m = step(&mut idle, OFF | KO_ON, 1);
         assert_eq!((m.output, m.pulse_sum), (1, 0));

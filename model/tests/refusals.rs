@@ -17,7 +17,7 @@ fn no_totals(motors: u32) -> String {
     (1..=motors).map(|k| format!("T,{k},0,0,0,0,0,0,0,0\n")).collect()
 }
 
-/// "a file exceeds 65,536 bytes (printed as `E,0,1` and nothing else)"
+/// One byte too many: `E,0,1` alone.
 #[test]
 fn refusal_1() {
     let mut file = b"M,1,0,0,0,0\n".to_vec();
@@ -118,7 +118,7 @@ fn refusal_5() {
     for line in wrong {
         assert_eq!(text(&format!("M,1,0,0,0,0\n{line}\nS,1\n")), "E,2,5\n", "{line:?}");
     }
-    // "lacking LF", however good it is otherwise
+    // without LF, however good it is otherwise
     for line in ["S,1", "S", "M,2,0,0,0,0", "I,1,0"] {
         assert_eq!(text(&format!("M,1,0,0,0,0\n{line}")), "E,2,5\n", "{line:?}");
     }
@@ -127,7 +127,7 @@ fn refusal_5() {
     assert_eq!(run(b"\xff\xfe\n"), b"E,1,5\n");
 }
 
-/// "over 80 bytes without LF": no line that long can be good for its fields
+/// The limit of 80 bytes: no line that long can be good for its fields
 /// either, so the bound itself never shows.
 #[test]
 fn longest_good_line() {
@@ -146,7 +146,7 @@ fn refusal_7() {
     assert_eq!(text(&full_table()), no_totals(32));
 }
 
-/// "M after the first accepted scan", also one of an empty table.
+/// M after a scan that was accepted, also one of an empty table.
 #[test]
 fn refusal_8() {
     assert_eq!(text("S,1\nM,1,0,0,0,0\n"), "E,2,8\n");
@@ -168,7 +168,7 @@ fn refusal_10() {
     }
 }
 
-/// "M 5, 4, 8, 7, 9; I 5, 10, 3; S 5, 2"
+/// The orders of lines (rule 4.3).
 #[test]
 fn order_of_refusals() {
     let full = full_table();
@@ -195,8 +195,7 @@ fn order_of_refusals() {
     ends_in("S,0\n", 2);
 }
 
-/// "Records and words differ in count, or exceed 32"; "scan 1, 6, 2, 3; single
-/// motor 6, 2, 3". "table and words are untouched".
+/// The orders of scans (rule 4.3), which leave table and words as they are.
 #[test]
 fn refusals_of_the_scans() {
     let fresh = Record::fresh(193, 0, 500, 300);

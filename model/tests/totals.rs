@@ -1,4 +1,4 @@
-//! The totals of a sitting, change request 2. Every print here comes from the
+//! The totals of a sitting, rule 8.3. Every print here comes from the
 //! model and from the fast version alike.
 
 use motor_model::file::{run_watched, Done};
@@ -61,16 +61,16 @@ fn usual(scans: &[(u32, u32)]) -> [u64; 8] {
     sitting(USUAL, scans)
 }
 
-/// "The whole print of document 01 gains `T,1,1,1,0,0,0,100,100,100`."
+/// The T line of sheets/first.txt.
 #[test]
-fn the_line_of_the_request() {
+fn the_line_of_the_first_sheet() {
     assert_eq!(
         text("M,1,193,0,500,300\nI,1,32\nS,100\nI,1,4128\nS,100\nI,1,16\nS,100\n"),
         "R,1,1,2,1,0,0,0,0\nR,2,1,2,1,7,0,1,0\nR,3,1,2,2,0,1,0,0\nT,1,1,1,0,0,0,100,100,100\n"
     );
 }
 
-/// "a line per motor": also for one that was never scanned or never given a
+/// A line for each motor: also for one that was never scanned or never given a
 /// command, and none where there is no motor.
 #[test]
 fn a_line_for_every_motor() {
@@ -83,7 +83,7 @@ fn a_line_for_every_motor() {
     assert_eq!(usual(&[(OFF | KO_OFF, 100), (OFF, 100)]), [0; 8]);
 }
 
-/// "Lines for several motors always come by rising number", each from its own
+/// Motors by rising number, each from its own
 /// motor.
 #[test]
 fn by_rising_number() {
@@ -102,7 +102,7 @@ fn by_rising_number() {
     assert_eq!(totals(&text(&file)), expected);
 }
 
-/// "When a file has been read to its end without a refusal": none otherwise,
+/// T lines come only after the last line was accepted: none otherwise,
 /// wherever it is refused.
 #[test]
 fn none_after_a_refusal() {
@@ -149,7 +149,7 @@ fn none_for_a_file_too_long() {
     assert_eq!(print(&file), "E,0,1\n");
 }
 
-/// "On is the sum of the periods of all scans with a sure On reading."
+/// On counts the scans that read On, and no pretended ones.
 #[test]
 fn on_by_sure_readings() {
     assert_eq!(usual(&[(ON, 7)])[5], 7);
@@ -221,7 +221,7 @@ fn ended_and_issued_in_one_scan() {
     assert_eq!(usual(&[(KO_ON, 100), (LZ_OFF, 499)]), [2, 0, 1, 0, 1, 0, 0, 0]);
 }
 
-/// "The best and worst time from issue to confirmation", in either order.
+/// Best and worst, in either order of two commands.
 #[test]
 fn best_and_worst() {
     let slow = [(OFF | KO_ON, 100), (OFF, 250), (ON, 50)];
@@ -249,7 +249,7 @@ fn time_from_issue_to_confirmation() {
     assert_eq!(sitting([193, 0, 0, 0], &[(OFF | KO_ON, 1), (ON, 5)]), [1, 1, 0, 0, 0, 5, 5, 5]);
 }
 
-/// "both 0 if there was none": other ends and what is under way have no part in
+/// No confirmation, no times: other ends and what is under way have no part in
 /// them.
 #[test]
 fn no_confirmation() {
@@ -278,7 +278,7 @@ fn long_sums() {
     assert_eq!(totals(&text(&file)), [[1, 0, 0, 0, 0, 0, on, 0, 0]]);
 }
 
-/// "Issued equals the sum of the next four", on random files. The same counts
+/// The balance of rule 8.4, on random files. The same counts
 /// are taken from the ten steps here, whose records carry sums; the model takes
 /// them from the book.
 #[test]

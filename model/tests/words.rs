@@ -1,10 +1,10 @@
-//! Words in hexadecimal, change request 4. Every print here comes from the model
+//! Words in hexadecimal, rule 7.4. Every print here comes from the model
 //! and from the fast version alike.
 
 use motor_model::file::{number, run, word};
 use motor_model::story::{self, Dice};
 use motor_model::words::{self, with_field, NUMBER_PLACES, ODD, WORD_PLACES};
-use motor_model::{ends, fast, paper};
+use motor_model::{ends, fast, sheets};
 use std::collections::HashMap;
 
 /// The digits, each at the place of its value.
@@ -83,7 +83,7 @@ fn every_two_bytes() {
     }
 }
 
-/// "one to eight digits"; "Leading zeros are allowed after 0x."
+/// From no digit to ten, with zeros in front and without.
 #[test]
 fn every_length() {
     for length in 0..=10 {
@@ -155,7 +155,7 @@ fn limits() {
     assert_eq!(text("M,1,0,0,0,0\nI,1,0xFFFFFFFF\n"), "E,2,3\n");
 }
 
-/// "0x and one to eight digits, capital letters only": nothing else is read.
+/// Other writings: none of them is read.
 #[test]
 fn wrong_fields() {
     for field in ODD {
@@ -168,7 +168,7 @@ fn wrong_fields() {
     }
 }
 
-/// "in those two fields and in the word of I": in no other field of any line.
+/// Hexadecimal is for the three word fields: no other field of any line takes it.
 #[test]
 fn only_words() {
     for field in ["0x1", "0x01", "0x00000001", "0x0", "0xA", "0x1F4", "0xFFFFFFFF"] {
@@ -217,7 +217,7 @@ fn decimal_words() {
     }
 }
 
-/// "M 5, 4, 8, 7, 9; I 5, 10, 3" in hexadecimal as in decimal.
+/// The orders of M and I (rule 4.3), in hexadecimal as in decimal.
 #[test]
 fn order_of_refusals() {
     let full: String = (1..=32).map(|k| format!("M,{k},0x{k:X},0x{:X},0,0\n", k % 32)).collect();
@@ -249,7 +249,7 @@ fn order_of_refusals() {
     }
 }
 
-/// "lacking LF", however good it is otherwise; "over 80 bytes".
+/// A line without LF, however good it is otherwise; and one over 80 bytes.
 #[test]
 fn ends_of_lines() {
     assert_eq!(text("M,1,0xC1,0x0,500,300"), "E,1,5\n");
@@ -324,7 +324,8 @@ fn notation_does_not_matter() {
         }
     };
     let (mut whole, mut mixed) = (0, 0);
-    let sheets = paper::sheets().into_iter().chain(paper::more_sheets()).map(|sheet| sheet.file.into_bytes());
+    let sheets =
+        sheets::given_sheets().into_iter().chain(sheets::more_sheets()).map(|sheet| sheet.file.into_bytes());
     let random = (0..1500).filter(|index| !story::is_long(*index)).map(|index| story::file(41, index));
     for file in sheets.chain(random) {
         let expected = print(&file);

@@ -1,5 +1,5 @@
 //! `check PROGRAM [--wave WAVE] [--files N] [--seed S]`: the program against the
-//! model, on the sheets of the paper, on files with line ends at each of the first
+//! model, on the sheets of the rule book and others, on files with line ends at each of the first
 //! places, on files with each way of writing a word, and then on random files.
 //! `WAVE` is the second program: its dumps of all these files are compared too, and
 //! read back.
@@ -7,7 +7,7 @@
 use motor_model::dump::{self, Outputs};
 use motor_model::file::{run, run_watched};
 use motor_model::outside::{legible, Outcome, Program, TOO_SLOW};
-use motor_model::paper::{dump_sheets, more_sheets, sheets};
+use motor_model::sheets::{dump_sheets, given_sheets, more_sheets};
 use motor_model::shrink::shrink;
 use motor_model::story;
 use motor_model::tally::Tally;
@@ -130,7 +130,7 @@ fn said(title: &str, file: &[u8], faults: &[String]) -> bool {
 /// The sheets, against both sides.
 fn check_sheets(side: &Side) -> bool {
     let mut good = true;
-    for sheet in sheets().into_iter().chain(more_sheets()) {
+    for sheet in given_sheets().into_iter().chain(more_sheets()) {
         let file = sheet.file.as_bytes();
         let mut faults = Vec::new();
         if let Err(fault) = sheet.judge(&run(file)) {
@@ -173,7 +173,7 @@ fn check_dumps(side: &Side) -> bool {
         }
     }
     let others: Vec<Vec<u8>> =
-        sheets().into_iter().chain(more_sheets()).map(|sheet| sheet.file.into_bytes()).collect();
+        given_sheets().into_iter().chain(more_sheets()).map(|sheet| sheet.file.into_bytes()).collect();
     good && check_dump_list(side, "sheets", &others)
 }
 
@@ -273,7 +273,7 @@ fn sides(wish: &Wish) -> Result<Vec<Side>, String> {
 
 /// Whether all sheets and lists agree.
 fn check_known(sides: &[Side]) -> bool {
-    let lists = [("line ends", ends::files(sheets()[0].file.as_bytes())), ("words", words::files())];
+    let lists = [("line ends", ends::files(given_sheets()[0].file.as_bytes())), ("words", words::files())];
     let [bench, waves @ ..] = sides else { return true };
     if !check_sheets(bench) || !waves.iter().all(check_dumps) {
         println!("the sheets differ");

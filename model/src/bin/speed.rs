@@ -8,7 +8,7 @@
 //! is taken by the system's count over many runs with the print thrown away;
 //! what an empty file costs is start alone and is taken off in the last ratio.
 
-use motor_model::{fast, paper, story};
+use motor_model::{fast, sheets, story};
 use std::ffi::{c_int, c_long};
 use std::fs::{self, File};
 use std::io::Read;
@@ -86,7 +86,7 @@ fn cases(wave: bool) -> Vec<Case> {
         Case { title: "words in hexadecimal, 1 motor", file: words_only(1, hexadecimal) },
     ];
     if wave {
-        let file = paper::longest_dump().file.into_bytes();
+        let file = sheets::longest_dump().file.into_bytes();
         cases.push(Case { title: "a change in each scan, 1 motor", file });
     }
     cases

@@ -1,7 +1,6 @@
-//! The sheets of the paper, those with word 48 as change request 1 has
-//! them, and others worked by hand. The paper marks R lines; the totals below
-//! them are those of change request 2, worked by hand too. So are the dumps of
-//! change request 5 but for the one that it gives.
+//! The sheets of the rule book (docs/RULES.md), some at a limit, and others
+//! worked by hand. The rule book marks R lines; the totals below them are
+//! worked by hand too, and so are the dumps.
 
 /// What a sheet marks.
 #[derive(Clone, Debug)]
@@ -61,8 +60,9 @@ fn whole(print: &str) -> Mark {
     Mark::Whole(print.to_string())
 }
 
-/// All sheets of the paper, with a star or without.
-pub fn sheets() -> Vec<Sheet> {
+/// The sheets of the rule book, and those at a limit of a period, a word, a
+/// setting and the table.
+pub fn given_sheets() -> Vec<Sheet> {
     use Field::*;
     use Mark::{Field as Only, Last};
     let table_32: String = (1..=32).map(|k| format!("M,{k},193,0,500,300\n")).collect();
@@ -221,13 +221,13 @@ pub fn more_sheets() -> Vec<Sheet> {
             &["M,1,192,0,500,300\nI,1,48\nS,100\n"],
             whole("R,1,1,2,2,0,0,0,0\nT,1,0,0,0,0,0,100,0,0\n"),
         ),
-        // "Confirming from the position instead of a sure reading".
+        // A favourite error: confirming from the position.
         sheet(
             "a pretended position does not confirm",
             &["M,1,193,28,500,300\nI,1,4128\nS,100\nI,1,48\nS,100\n"],
             Last("R,2,1,2,2,7,0,1,0\nT,1,1,0,0,0,1,0,0,0\n"),
         ),
-        // "Choosing LZ on because LZ off would not displace a KO off".
+        // A favourite error: asking what displaces before the choice.
         sheet(
             "the choice comes first",
             &[MOTOR, "I,1,16\nS,100\nI,1,8208\nS,100\nI,1,400\nS,100\n"],
@@ -239,7 +239,7 @@ pub fn more_sheets() -> Vec<Sheet> {
             &["M,1,193,0,500,0\nI,1,4128\nS,100\n", &ten_minutes],
             Last("R,62,1,2,1,0,0,1,8192\nT,1,1,0,0,1,0,0,0,0\n"),
         ),
-        // "Dropping a held output when overdue".
+        // A favourite error: a held output that drops at the end.
         sheet(
             "a held output outlives the command",
             &["M,1,193,0,500,0\nI,1,4128\nS,100\nS,500\n"],
@@ -251,7 +251,7 @@ pub fn more_sheets() -> Vec<Sheet> {
             &[MOTOR, "I,1,4128\nS,100\nI,1,16\nS,100\nI,1,4112\nI,1,32\nS,100\nI,1,0\nI,1,32\nS,100\n"],
             Last("R,4,1,2,1,0,0,0,8\nT,1,1,1,0,0,0,100,100,100\n"),
         ),
-        // Change request 2: totals.
+        // Totals.
         sheet(
             "two motors, no scan",
             &[MOTOR, "M,2,0,0,0,0\nI,1,16\n"],
@@ -285,7 +285,7 @@ pub fn more_sheets() -> Vec<Sheet> {
             &["M,1,193,28,500,300\nI,1,48\nS,100\nI,1,16\nS,7\nI,1,0\nS,100\n"],
             Last("R,3,1,2,2,0,0,0,2\nT,1,0,0,0,0,0,7,0,0\n"),
         ),
-        // Change request 4: words in hexadecimal.
+        // Words in hexadecimal.
         sheet(
             "the whole print, in hexadecimal",
             &["M,1,0xC1,0x0,500,300\nI,1,0x20\nS,100\nI,1,0x1020\nS,100\nI,1,0x10\nS,100\n"],
