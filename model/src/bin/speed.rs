@@ -2,6 +2,8 @@
 //! fast plain version, run in turn as programs of the same kind. `PLAIN` is
 //! otherwise the binary `plain` beside this one. With `--wave` the program is the
 //! one for the dump, and runs against `PLAIN --wave`.
+//! `speed --files FOLDER [--wave]` measures nothing: it writes the files into a
+//! folder, for a count of instructions.
 //!
 //! Clock time is taken with the print going into a pipe that is drained here;
 //! `cat` of the same print through the same pipe is the floor. Processor time
@@ -16,7 +18,8 @@ use std::path::{Path, PathBuf};
 use std::process::{Command, ExitCode, Stdio};
 use std::time::{Duration, Instant};
 
-const USAGE: &str = "usage: speed PROGRAM [--wave] [--rounds N] [--plain PLAIN]";
+const USAGE: &str =
+    "usage: speed PROGRAM [--wave] [--rounds N] [--plain PLAIN], or speed --files FOLDER [--wave]";
 
 #[repr(C)]
 #[derive(Default)]
@@ -55,6 +58,28 @@ fn scans_only() -> Vec<u8> {
     file
 }
 
+/// Thirty-two motors with a command under way in all scans but the first two.
+/// The buttons come after a scan, so that they rise in the next.
+fn under_way() -> Result<Vec<u8>, String> {
+    let mut file: Vec<u8> =
+        (1..=32).flat_map(|k| format!("M,{k},193,0,600000,600000\n").into_bytes()).collect();
+    for word in [32, 4128] {
+        file.extend((1..=32).flat_map(|k| format!("I,{k},{word}\n").into_bytes()));
+        file.extend_from_slice(b"S,1\n");
+    }
+    while file.len() + 4 <= 65_536 {
+        file.extend_from_slice(b"S,1\n");
+    }
+    let mut print = Vec::new();
+    fast::run(&file[..], &mut print).expect("a buffer takes any print");
+    let text = String::from_utf8_lossy(&print);
+    let row = text.lines().rfind(|line| line.starts_with("R,")).unwrap_or("");
+    match row.split(',').nth(5) {
+        Some("7") => Ok(file),
+        _ => Err(format!("no command is under way at the end of its file, whose last row is {row}")),
+    }
+}
+
 /// Input words for one motor after another, written so, as many as fit, and no
 /// scan.
 fn words_only(motors: usize, written: impl Fn(usize) -> String) -> Vec<u8> {
@@ -73,7 +98,7 @@ fn words_only(motors: usize, written: impl Fn(usize) -> String) -> Vec<u8> {
 /// Each kind of file for 32 motors and, where a line of it costs the same
 /// whatever the number of motors, for one; then, for dumps, one with a change in
 /// each scan.
-fn cases(wave: bool) -> Vec<Case> {
+fn cases(wave: bool) -> Result<Vec<Case>, String> {
     let decimal = |word: usize| word.to_string();
     let hexadecimal = |word: usize| format!("0x{word:X}");
     let mut cases = vec![
@@ -84,12 +109,24 @@ fn cases(wave: bool) -> Vec<Case> {
         Case { title: "words only, 1 motor", file: words_only(1, decimal) },
         Case { title: "words in hexadecimal, 32 motors", file: words_only(32, hexadecimal) },
         Case { title: "words in hexadecimal, 1 motor", file: words_only(1, hexadecimal) },
+        Case { title: "commands under way, 32 motors", file: under_way()? },
     ];
     if wave {
         let file = sheets::longest_dump().file.into_bytes();
         cases.push(Case { title: "a change in each scan, 1 motor", file });
     }
-    cases
+    Ok(cases)
+}
+
+/// The files of the benchmark, by their titles.
+fn write_files(folder: &Path, wave: bool) -> Result<(), String> {
+    let failed = |e| format!("cannot write into {}: {e}", folder.display());
+    fs::create_dir_all(folder).map_err(failed)?;
+    for case in cases(wave)? {
+        let name = case.title.replace(", ", "_").replace(' ', "_");
+        fs::write(folder.join(name + ".txt"), case.file).map_err(failed)?;
+    }
+    Ok(())
 }
 
 /// What the program takes for a line read or printed, by the number of motors.
@@ -273,11 +310,17 @@ impl Bench {
     }
 }
 
-fn wish() -> Result<Bench, String> {
+enum Wish {
+    Measure(Bench),
+    Files(PathBuf, bool),
+}
+
+fn wish() -> Result<Wish, String> {
     let mut args = std::env::args().skip(1);
-    let (mut program, mut plain, mut wave, mut rounds) = (None, None, false, 31);
+    let (mut program, mut plain, mut folder, mut wave, mut rounds) = (None, None, None, false, 31);
     while let Some(arg) = args.next() {
         match arg.as_str() {
+            "--files" => folder = Some(args.next().ok_or(format!("--files needs a folder\n{USAGE}"))?),
             "--rounds" => {
                 let text = args.next().unwrap_or_default();
                 rounds = text
@@ -292,6 +335,9 @@ fn wish() -> Result<Bench, String> {
             _ if program.is_none() => program = Some(arg),
             other => return Err(format!("one program only, not also {other}\n{USAGE}")),
         }
+    }
+    if let Some(folder) = folder {
+        return Ok(Wish::Files(PathBuf::from(folder), wave));
     }
     let found =
         |name: &Path| fs::canonicalize(name).map_err(|e| format!("cannot find {}: {e}", name.display()));
@@ -311,24 +357,31 @@ fn wish() -> Result<Bench, String> {
     }
     let folder = std::env::temp_dir().join(format!("motor-speed-{}", std::process::id()));
     fs::create_dir_all(&folder).map_err(|e| format!("cannot make a folder for temporary files: {e}"))?;
-    Ok(Bench { program, plain, wave, rounds, folder })
+    Ok(Wish::Measure(Bench { program, plain, wave, rounds, folder }))
+}
+
+fn measure_all(bench: &Bench) -> Result<(), String> {
+    let times: Vec<f64> =
+        cases(bench.wave)?.iter().map(|case| bench.measure(case)).collect::<Result<_, _>>()?;
+    by_motors(&times);
+    Ok(())
 }
 
 fn main() -> ExitCode {
-    let bench = match wish() {
-        Ok(bench) => bench,
+    let done = match wish() {
+        Ok(Wish::Files(folder, wave)) => write_files(&folder, wave),
+        Ok(Wish::Measure(bench)) => {
+            let done = measure_all(&bench);
+            let _ = fs::remove_dir_all(&bench.folder);
+            done
+        }
         Err(message) => {
             eprintln!("speed: {message}");
             return ExitCode::from(2);
         }
     };
-    let result: Result<Vec<f64>, String> = cases(bench.wave).iter().map(|case| bench.measure(case)).collect();
-    let _ = fs::remove_dir_all(&bench.folder);
-    match result {
-        Ok(times) => {
-            by_motors(&times);
-            ExitCode::SUCCESS
-        }
+    match done {
+        Ok(()) => ExitCode::SUCCESS,
         Err(message) => {
             eprintln!("speed: {message}");
             ExitCode::from(1)
