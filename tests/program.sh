@@ -67,12 +67,35 @@ for each in "$program" "$wave"; do
   told "a folder as input" "$status"
   expect "a folder as input" "$work/got" "$work/none"
 done
-# the root script: every wrong call says what is wrong and ends with 2
-for call in "./bench sheets/first.txt" "./bench --help" "./bench wave sheets/first.txt" "./bench bench wave"; do
-  if $call < /dev/null 2> "$work/said"; then echo "tests/program.sh: $call did not refuse"; exit 1; fi
-  grep -q 'standard input' "$work/said" || { echo "tests/program.sh: $call said:"; cat "$work/said"; exit 1; }
+# the root script: --help and every wrong call say how to use it, a wrong call with status 2
+./bench --help > "$work/usage"
+grep -q '^usage: ./bench' "$work/usage" || { echo "tests/program.sh: ./bench --help says no usage"; exit 1; }
+for call in "./bench sheets/first.txt" "./bench wave sheets/first.txt" "./bench bench wave"; do
+  status=0
+  $call < /dev/null > "$work/got" 2> "$work/said" || status=$?
+  [ "$status" -eq 2 ] && tail -n +2 "$work/said" | cmp -s - "$work/usage" || { echo "tests/program.sh: $call ended with $status, and said:"; cat "$work/said"; exit 1; }
+  expect "$call" "$work/got" "$work/none"
 done
-./bench < sheets/first.txt > "$work/got"
-expect "the root script" "$work/got" sheets/first.print
+# it works from anywhere and through a link; an edit of must-fail/ starts no rebuild, which without rt could not be
+ln -s "$PWD/bench" "$work/linked"
+sheets=$PWD/sheets
+touch crates/words/must-fail/*.edit
+(cd "$work" && PATH=/usr/bin:/bin ./linked < "$sheets/first.txt") > "$work/got"
+expect "the root script, linked" "$work/got" sheets/first.print
 ./bench wave < sheets/first.txt > "$work/got"
 expect "the root script, waveform" "$work/got" sheets/first.vcd
+# an edit of the source does; here with an rt that proves nothing, of whose words the first error is shown
+touch -r crates/words/src/lib.rt "$work/stamp"
+touch crates/words/src/lib.rt
+mkdir "$work/kit"
+printf '%s\n' '#!/bin/sh' 'echo "logic"; echo "error: the first"; echo "note"; exit 1' > "$work/kit/rt"
+chmod +x "$work/kit/rt"
+status=0
+PATH=$work/kit:/usr/bin:/bin ./bench < sheets/first.txt > "$work/got" 2> "$work/said" || status=$?
+touch -r "$work/stamp" crates/words/src/lib.rt
+[ "$status" -eq 1 ] && grep -q 'crate 1 of ' "$work/said" && [ "$(tail -n 1 "$work/said")" = "error: the first" ] || {
+  echo "tests/program.sh: a build that fails ended with $status, and said:"
+  cat "$work/said"
+  exit 1
+}
+expect "a build that fails" "$work/got" "$work/none"
