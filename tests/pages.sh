@@ -3,6 +3,8 @@
 set -euo pipefail
 cd "$(dirname "$0")/.."
 program=$PWD/crates/bench/out/bench
+work=$(mktemp -d)
+trap 'rm -rf "$work"' EXIT
 faults=0
 wrong() { echo "tests/pages.sh: $*"; faults=$((faults + 1)); }
 
@@ -10,29 +12,36 @@ wrong() { echo "tests/pages.sh: $*"; faults=$((faults + 1)); }
 stands_in() { # name, file
   case $2 in
     *.rt) grep -qE "(fn|struct|enum) $1\b" "$2" ;;
-    *) grep -qE "^ *(unfoldable |abbrev )?(pub )?(record |data )?$1 " "$2" ;;
+    *) grep -qE "^ *(unfoldable |abbrev )?(pub )?(record |data )?$1 [^=]*:" "$2" ;;
   esac
 }
-count=0
-while IFS='(' read -r names file; do
+grep '^> ' docs/RULES.md | grep -oE '(`[^`]+`(, )?)+ \([A-Za-z_/]+\.(antt|rt)\)' > "$work/groups"
+names=0
+while IFS='(' read -r list file; do
   file=crates/${file%)}
   [ -f "$file" ] || { wrong "docs/RULES.md: there is no $file"; continue; }
-  for name in ${names//[\`,]/ }; do
+  for name in ${list//[\`,]/ }; do
     stands_in "$name" "$file" || wrong "docs/RULES.md: $name does not stand in $file"
-    count=$((count + 1))
+    names=$((names + 1))
   done
-done < <(grep '^> ' docs/RULES.md | grep -oE '(`[^`]+`(, )?)+ \([A-Za-z_/]+\.(antt|rt)\)')
-awk '/^\*\*[0-9]/ { if (rule) bad = bad " " rule; rule = $1 } /^> / { rule = "" } END { print bad (rule ? " " rule : "") }' docs/RULES.md |
-  grep -q '[0-9]' && wrong "docs/RULES.md: a rule without the line that says what holds it"
-echo "ok: $count names in docs/RULES.md"
+done < "$work/groups"
+[ "$(wc -l < "$work/groups")" -eq "$(grep '^> ' docs/RULES.md | grep -oE '\.(antt|rt)\)' | wc -l)" ] || wrong "docs/RULES.md: a line below a rule could not be read whole"
+bare=$(awk '/^\*\*[0-9]/ { if (rule) print rule; rule = $1 } /^> / { rule = "" } END { if (rule) print rule }' docs/RULES.md)
+[ -z "$bare" ] || wrong "docs/RULES.md: without a line that says what holds it:" $bare
+echo "ok: $names names in docs/RULES.md"
 
 # its sheets, a row each: words, settings, mark
 sheets=0
 while IFS='|' read -r _ words settings mark _; do
   ops2=0 wait=500
-  case $settings in *OPS_2*) ops2=${settings##*OPS_2 } ;; *W*) wait=${settings##*W } ;; esac
-  { echo "M,1,193,${ops2// /},${wait// /},300"; for word in ${words//,/ }; do printf 'I,1,%s\nS,100\n' "$word"; done; } > target/sheet.txt
-  row=$("$program" < target/sheet.txt | grep '^R' | tail -n 1)
+  case $settings in
+    ' OPS_2 '*) ops2=${settings# OPS_2 } ;;
+    ' W '*) wait=${settings# W } ;;
+    ' ') ;;
+    *) wrong "docs/RULES.md: the settings$settings are not read" ;;
+  esac
+  { echo "M,1,193,${ops2// /},${wait// /},300"; for word in ${words//,/ }; do printf 'I,1,%s\nS,100\n' "$word"; done; } > "$work/sheet"
+  row=$("$program" < "$work/sheet" | grep '^R' | tail -n 1) || true
   case $mark in
     *output*) got=" output $(cut -d, -f8 <<< "$row") " ;;
     *mode*) got=" mode $(cut -d, -f4 <<< "$row") " ;;
@@ -44,26 +53,38 @@ done < <(sed -n '/^## Sheets/,$p' docs/RULES.md | grep '^| [0-9]')
 [ "$sheets" -ge 20 ] || wrong "docs/RULES.md: only $sheets sheets were read"
 echo "ok: $sheets sheets in docs/RULES.md"
 
-# files that the pages name
+# files that the pages name, with a folder or without; crates and sheets, each of which has a place
+pages="README.md docs/*.md sheets/README.md"
 while IFS=: read -r page file; do
   [ -e "$file" ] || [ -e "crates/$file" ] || [ -e "docs/$file" ] || wrong "$page names $file, which is not there"
-done < <(grep -oE '[a-z_]+/[A-Za-z0-9_/.-]+\.(antt|rt|rs|sh|md|txt|png)\b|\([A-Z]+\.md\)' README.md docs/*.md sheets/README.md | tr -d '()' | grep -vE ':(target/|sheets/NAME)')
+done < <(grep -oE '[a-z_]+/[A-Za-z0-9_/.-]+\.(antt|rt|rs|sh|md|txt|vcd|print|png)\b|\([A-Z]+\.md\)' $pages | tr -d '()' | grep -vE ':(target/|sheets/NAME)')
+git ls-files | sed 's#.*/##' | sort -u > "$work/files"
+while IFS=: read -r page file; do
+  grep -qxF "${file//\`/}" "$work/files" || wrong "$page names $file, which is not there"
+done < <(grep -oE '`[A-Za-z_]+\.(antt|rt|rs)`' $pages)
+for crate in $(grep -oE '^[a-z_]+' crates.txt); do
+  grep -qF "\`$crate\`" docs/HOUSE.md || wrong "docs/HOUSE.md does not name the crate $crate"
+done
+diff <(grep -oE '^\| `[a-z_0-9]+`' sheets/README.md | tr -d '|` ' | sort) <(basename -s .txt sheets/*.txt | sort) || wrong "sheets/README.md has other sheets than sheets/"
 
-# prints and sheets that they show
+# what they show
 shown() { awk -v begins="$2" '/^```/ { open = !open; shows = 0; next } open && $0 ~ begins { shows = 1 } shows' "$1"; } # page, how the block begins
-shows() { [ "$(shown "$1" "$2")" = "$(cat "$3")" ] || wrong "$1 shows something else than $3"; }
-shows README.md '^M,' sheets/first.txt
-shows README.md '^R,' sheets/first.print
-shows docs/RULES.md '^R,' sheets/first.print
-shows docs/RULES.md '^[$]timescale' sheets/first.vcd
-shows docs/CANDIDATE.md '^M,' sheets/displaced.txt
-[ "$(grep -E '^Print: ' docs/CANDIDATE.md | grep -oE '[RT],[0-9,]+')" = "$(cat sheets/displaced.print)" ] ||
-  wrong "docs/CANDIDATE.md prints something else than sheets/displaced.print"
+shows() { [ "$(shown "$1" "$2")" = "$3" ] || wrong "$1 shows something else: $2"; }
+shows README.md '^M,' "$(cat sheets/first.txt)"
+shows README.md '^R,' "$(cat sheets/first.print)"
+shows docs/RULES.md '^R,' "$(cat sheets/first.print)"
+shows docs/RULES.md '^[$]timescale' "$(cat sheets/first.vcd)"
+shows docs/CANDIDATE.md '^M,' "$(cat sheets/displaced.txt)"
+shows docs/EXAMINER.md '^#0' "$(sed -n '/^#0/,$p' sheets/totals.vcd)"
+[ "$(grep -E '^Print: ' docs/CANDIDATE.md | grep -oE '[RT],[0-9,]+')" = "$(cat sheets/displaced.print)" ] || wrong "docs/CANDIDATE.md prints something else than sheets/displaced.print"
 
+# how long they may be
 [ "$(wc -w < README.md)" -le 900 ] || wrong "README.md has $(wc -w < README.md) words"
+awk '/^## / { entry = $2; lines = 0 } NF && !/^#/ { if (++lines > 12 && entry) print entry }' docs/CHANGES.md | sort -u > "$work/long"
+[ ! -s "$work/long" ] || wrong "docs/CHANGES.md: more than a dozen lines in" $(cat "$work/long")
 # a reader has the rule book, and none of what it was made from
-cited=$(git grep -lE 'th[e] paper|[Dd]emands? [0-9]|chang[e] requests?|documen[t] 0|[Rr]equests? [0-9]' -- . ':!docs/DECISIONS.md' || true)
-[ -z "$cited" ] || wrong "they cite what is not here: $cited"
+cited=$(git grep -lE 'th[e] paper|[Dd]emands? [0-9]|chang[e] requests?|documen[t] 0|[Rr]equests? [0-9]' -- . ':!docs/DECISIONS.md') || [ $? -eq 1 ] || wrong "git grep failed"
+[ -z "$cited" ] || wrong "they cite what is not here:" $cited
 
 [ "$faults" -eq 0 ] || exit 1
 echo "ok: pages"

@@ -76,26 +76,30 @@ for call in "./bench sheets/first.txt" "./bench wave sheets/first.txt" "./bench 
   [ "$status" -eq 2 ] && tail -n +2 "$work/said" | cmp -s - "$work/usage" || { echo "tests/program.sh: $call ended with $status, and said:"; cat "$work/said"; exit 1; }
   expect "$call" "$work/got" "$work/none"
 done
-# it works from anywhere and through a link; an edit of must-fail/ starts no rebuild, which without rt could not be
-ln -s "$PWD/bench" "$work/linked"
-sheets=$PWD/sheets
-touch crates/words/must-fail/*.edit
-(cd "$work" && PATH=/usr/bin:/bin ./linked < "$sheets/first.txt") > "$work/got"
-expect "the root script, linked" "$work/got" sheets/first.print
+./bench < sheets/first.txt > "$work/got"
+expect "the root script" "$work/got" sheets/first.print
 ./bench wave < sheets/first.txt > "$work/got"
 expect "the root script, waveform" "$work/got" sheets/first.vcd
-# an edit of the source does; here with an rt that proves nothing, of whose words the first error is shown
-touch -r crates/words/src/lib.rt "$work/stamp"
-touch crates/words/src/lib.rt
-mkdir "$work/kit"
-printf '%s\n' '#!/bin/sh' 'echo "logic"; echo "error: the first"; echo "note"; exit 1' > "$work/kit/rt"
+# the same in a tree of its own, through a link, with an rt that proves nothing: what is built already is not built again, also after
+# an edit of must-fail/; after an edit of the source the crate is named, and the first error is shown
+tree="$work/a tree"
+mkdir -p "$tree/crates/bench/out" "$work/kit"
+tar -c --exclude=out bench crates.txt crates | tar -x -C "$tree"
+find "$tree" -exec touch {} +
+cp crates/bench/out/bench "$tree/crates/bench/out"
+printf '%s\n' '#!/bin/sh' 'echo logic' 'echo "error: the first"' 'echo its place' 'exit 1' > "$work/kit/rt"
 chmod +x "$work/kit/rt"
+ln -s "$tree/bench" "$work/linked"
+own() { PATH=$work/kit:$PATH "$work/linked" < sheets/first.txt > "$work/got" 2> "$work/said"; }
+touch -d '1 minute' "$tree"/crates/words/must-fail/*.edit
+own
+expect "the root script, linked, after an edit of must-fail/" "$work/got" sheets/first.print
+touch -d '1 minute' "$tree/crates/words/src/lib.rt"
 status=0
-PATH=$work/kit:/usr/bin:/bin ./bench < sheets/first.txt > "$work/got" 2> "$work/said" || status=$?
-touch -r "$work/stamp" crates/words/src/lib.rt
-[ "$status" -eq 1 ] && grep -q 'crate 1 of ' "$work/said" && [ "$(tail -n 1 "$work/said")" = "error: the first" ] || {
+own || status=$?
+[ "$status" -eq 1 ] && grep -q 'crate 1 of ' "$work/said" && [ "$(tail -n 2 "$work/said")" = $'error: the first\nits place' ] || {
   echo "tests/program.sh: a build that fails ended with $status, and said:"
   cat "$work/said"
   exit 1
 }
-expect "a build that fails" "$work/got" "$work/none"
+expect "the root script, a build that fails" "$work/got" "$work/none"
