@@ -1,4 +1,4 @@
-// The dump of a whole file, as a walk through its lines (course): it is `dump_of` of the file (proofs/Pieces.antt).
+// The dump of a whole file, rule 9, as a walk through its lines (course): it is `dump_of` of the file (proofs/Pieces.antt).
 #![tactic(auto)]
 
 mod lines;

@@ -1,4 +1,4 @@
-// What a request does to a bench.
+// What a request does to a bench: rules 7.5 to 7.8.
 ghost use Rattle.std.specs.Prelude.{◌≡◌, ◌≤◌, ◌-◌, length, IfOk};
 ghost use Rattle.rules.specs.Numbers.{code_of};
 ghost use Rattle.rules.specs.Refusals.{most_motors, step_all};

@@ -1,5 +1,5 @@
-// One motor's record taken through one scan, by value: the record, its word and the period side by side, as the rules name them. Where a
-// rule goes by settings, status or output alone, these are handed on side by side too, as in its definition.
+// A scan of one motor by value, rules 3 and 4.3 to 4.5: the record, its word and the period side by side. Where a definition
+// goes by settings, status or output alone, these are handed on side by side too, as in its definition.
 #![tactic(auto)]
 
 ghost use Rattle.std.specs.Prelude.{◌≡◌};

@@ -1,4 +1,4 @@
-// The fields of a line, each a part of the line itself.
+// The fields of a line, each a part of the line itself: rule 7.2.
 ghost use Rattle.std.specs.Prelude.{◌≡◌};
 ghost use Rattle.sheet.specs.Split.{field_of, field_count};
 

@@ -1,4 +1,4 @@
-// The bench program's file: its lines, their fields, the numbers in these, and the requests that lines make. What is read
+// A file for the bench, rule 7: its lines, their fields, the numbers in these, and the requests that lines make. What is read
 // is defined in specs/, for every list of bytes; every function exported here is equal to its definition on any input.
 // A file and a place in it are two parameters side by side, and no slice from there on, since the answers are places in the file.
 #![tactic(auto)]

@@ -1,4 +1,4 @@
-// The lines of a file, found where they stand.
+// The lines of a file, found where they stand: rule 7.1.
 ghost use Rattle.std.specs.Prelude.{◌≡◌};
 ghost use Rattle.sheet.specs.Split.{found_byte, between};
 ghost use Rattle.sheet.specs.Lines.{well_sized, line_at};

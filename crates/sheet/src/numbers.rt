@@ -1,4 +1,4 @@
-// The number that a field says, and the one that stands at a place of a file.
+// The number that a field says, rule 7.3, and the one that stands at a place of a file.
 ghost use Rattle.std.specs.Prelude.{◌≡◌, ◌-◌, get_or};
 ghost use Rattle.std.specs.Bool.{then_some};
 ghost use Rattle.sheet.specs.Number.{is_digit, number_of};

@@ -1,4 +1,4 @@
-// The request that a line makes.
+// The request that a line makes: rule 7.2.
 ghost use Rattle.std.specs.Prelude.{◌≡◌, unwrap_or};
 ghost use Rattle.rules.specs.Numbers.{code_of};
 ghost use Rattle.sheet.specs.declared.Request.TheVariants.{Refused};

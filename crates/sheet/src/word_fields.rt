@@ -1,4 +1,4 @@
-// The word that a field says: a number, or hexadecimal digits after 0x.
+// The word that a field says: a number, or hexadecimal digits after 0x (rule 7.4).
 ghost use Rattle.std.specs.Prelude.{◌≡◌};
 ghost use Rattle.std.specs.Bool.{then_some};
 ghost use Rattle.sheet.specs.WordField.{is_hex_digit, hex_digit, hex_number, has0x, word_of};

@@ -1,4 +1,4 @@
-// Steps 7 and 8: acknowledging, and the choice among the commands. What On and Off have alike is said twice, as the steps say it: each has
+// Acknowledging, and the choice among the commands: rules 3.7 and 3.8. What On and Off have alike is said twice, as there: each has
 // bits, options and flags of its own, which one function for both would be handed one by one.
 #![tactic(auto, unfolding(rules::specs::Opened::opened))]
 
@@ -36,7 +36,7 @@ pub fn acknowledged_flags(s: Settings, v: Status, word: u32) -> u32
     choose(is_on_acknowledged(s, v, word), without_bit(f, 4), f)
 }
 
-// Step 7.
+// Rule 3.7.
 pub fn acknowledge(s: Settings, v: Status, word: u32) -> Status
     ensures { result ≡ status7 s v word }
 {
@@ -53,7 +53,7 @@ pub fn is_acknowledging(s: Settings, v: Status, word: u32, c: u32) -> bool
     (c == 6) & is_off_acknowledged(s, v, word) | (c == 7) & is_on_acknowledged(s, v, word)
 }
 
-// KO only outside, MU only in local mode.
+// Whether local mode, or the lack of it, bars c.
 pub fn is_wrong_place(word: u32, c: u32) -> bool
     ensures { result ≡ wrong_place word c }
 {
@@ -119,7 +119,7 @@ pub fn is_issued(v: Status, new: u32) -> bool
     }
 }
 
-// Step 8: the command that is issued.
+// The command that is issued: rule 3.8.
 pub fn to_issue(s: Settings, v: Status, word: u32) -> Option<u32>
     ensures { result ≡ command_of (issued s v word) }
 {

@@ -1,4 +1,4 @@
-// The seven switching commands, by number: 0 is no command. Each test of a command is short, and a rule of its own in the steps.
+// The seven switching commands, by number: rule 1.7; 0 is no command. Each test of a command is short, and a definition of its own.
 #![tactic(auto, unfolding(rules::specs::Opened::opened))]
 
 ghost use Rattle.std.specs.Prelude.{◌≡◌};

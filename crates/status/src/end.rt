@@ -1,4 +1,4 @@
-// Step 4, on the status: the end of the command under way.
+// The end of the command under way, on the status: rule 3.4.
 #![tactic(auto, unfolding(rules::specs::Opened::opened))]
 
 ghost use Rattle.std.specs.Prelude.{◌≡◌};

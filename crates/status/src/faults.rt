@@ -1,4 +1,4 @@
-// Step 5: flags 0 (no supply), 1 (switch fault) and 14 (switch fault, both closed).
+// Flags 0 (no supply), 1 (switch fault) and 14 (switch fault, both closed): rule 3.5.
 #![tactic(auto, unfolding(rules::specs::Opened::opened))]
 
 ghost use Rattle.std.specs.Prelude.{◌≡◌};

@@ -1,4 +1,4 @@
-// Steps 9 and 10, on the status: issuing a command, and the previous word.
+// Issuing a command, on the status, and the previous word: rules 3.9 and 3.10.
 #![tactic(auto, unfolding(rules::specs::Opened::opened))]
 
 ghost use Rattle.std.specs.Prelude.{◌≡◌};
@@ -35,7 +35,7 @@ pub fn turns_to_work(s: Settings, v: Status, c: u32) -> bool
     (v.mode == 1) & (lz | (c == 7) & has(s.ops1, 10) | (c == 6) & has(s.ops1, 11))
 }
 
-// Step 9, for a command c.
+// The status after issuing c: rule 3.9.
 pub fn issue_status(s: Settings, v: Status, c: u32) -> Status
     ensures { result ≡ issue_status s v c }
 {
@@ -48,7 +48,7 @@ pub fn issue_status(s: Settings, v: Status, c: u32) -> Status
     }
 }
 
-// Step 10.
+// Rule 3.10.
 pub fn keep_word(v: Status, word: u32) -> Status
     ensures { result ≡ status10 v word }
 {

@@ -1,4 +1,4 @@
-// Step 6: the mode.
+// The mode: rule 3.6.
 #![tactic(auto, unfolding(rules::specs::Opened::opened))]
 
 ghost use Rattle.std.specs.Prelude.{◌≡◌, eqb};

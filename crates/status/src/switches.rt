@@ -1,4 +1,4 @@
-// Steps 1 and 2: end and Reset, and the switches.
+// End and Reset, and the switches: rules 3.1 and 3.2.
 #![tactic(auto, unfolding(rules::specs::Opened::opened))]
 
 ghost use Rattle.std.specs.Prelude.{◌≡◌};
@@ -11,7 +11,7 @@ use words::{choose, has, masked_out, with_bit};
 // Flags 2 to 13.
 const RESET_FLAGS: u32 = 16380;
 
-// Step 1.
+// Rule 3.1.
 #[tactic(auto, using(crate::proofs::Masks::reset_flags), unfolding(rules::specs::Steps::status1, rules::specs::Steps::flags1, rules::specs::Record::with_flags, rules::specs::Record::with_command, rules::specs::Record::reset))]
 pub fn begin(v: Status, word: u32) -> Status
     ensures { result ≡ status1 v word }
@@ -106,7 +106,7 @@ pub fn pretend(s: Settings, sure: u32) -> u32
     choose(!has(s.ops2, 2), 0, choose(!has(s.ops2, 3), sure, fixed))
 }
 
-// Step 2.
+// Rule 3.2.
 pub fn switches(s: Settings, v: Status, r: Reading) -> Status
     ensures { result ≡ status2 s v r }
 {

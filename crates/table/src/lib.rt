@@ -1,4 +1,4 @@
-// Scans over lent records, and one over an array by value.
+// Scans over lent records, and one over an array by value: rules 4.3 to 4.5.
 // Records, words and period go side by side, and so do an array, its count and its words: a caller that lends its motors keeps their words.
 #![tactic(auto)]
 
