@@ -78,6 +78,14 @@ shows docs/CANDIDATE.md '^M,' "$(cat sheets/displaced.txt)"
 shows docs/EXAMINER.md '^#0' "$(sed -n '/^#0/,$p' sheets/totals.vcd)"
 [ "$(grep -E '^Print: ' docs/CANDIDATE.md | grep -oE '[RT],[0-9,]+')" = "$(cat sheets/displaced.print)" ] || wrong "docs/CANDIDATE.md prints something else than sheets/displaced.print"
 
+# docs/READING.md shows each sign in a piece of the definitions or the contracts
+pieces=0
+while IFS= read -r piece; do
+  grep -rqF -- "${piece//\\|/|}" crates/*/specs crates/*/src || wrong "docs/READING.md shows a piece that is not there: $piece"
+  pieces=$((pieces + 1))
+done < <(grep -E '^\| `' docs/READING.md | grep -oE '`[^`]+` \|$' | sed 's/^`//; s/` |$//')
+[ "$pieces" -eq "$(grep -cE '^\| `' docs/READING.md)" ] || wrong "docs/READING.md: a sign without a piece"
+
 # how long they may be
 [ "$(wc -w < README.md)" -le 900 ] || wrong "README.md has $(wc -w < README.md) words"
 awk '/^## / { entry = $2; lines = 0 } NF && !/^#/ { if (++lines > 12 && entry) print entry }' docs/CHANGES.md | sort -u > "$work/long"
