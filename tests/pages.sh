@@ -43,6 +43,14 @@ while IFS='|' read -r _ words settings mark _; do
   { echo "M,1,193,${ops2// /},${wait// /},300"; for word in ${words//,/ }; do printf 'I,1,%s\nS,100\n' "$word"; done; } > "$work/sheet"
   row=$("$program" < "$work/sheet" | grep '^R' | tail -n 1) || true
   case $mark in
+    *output* | *mode*) [[ $mark =~ ([a-z]+)\ ([0-9]+) ]] && marks="${BASH_REMATCH[1]} ≔ ${BASH_REMATCH[2]} ∷ []" ;;
+    *) IFS=, read -r _ _ _ m p c e o f <<< "${mark//[\` ]/}" && marks="line $m $p $c $e $o $f" ;;
+  esac
+  wiring=wired
+  [ "$ops2 $wait" = "0 500" ] || wiring="(wiring 193 ${ops2// /} ${wait// /} 300)"
+  list=${words//,/ ∷}
+  echo "sheet $wiring (${list# }∷ []) ($marks)" >> "$work/table"
+  case $mark in
     *output*) got=" output $(cut -d, -f8 <<< "$row") " ;;
     *mode*) got=" mode $(cut -d, -f4 <<< "$row") " ;;
     *) got=" \`$row\` " ;;
@@ -50,6 +58,8 @@ while IFS='|' read -r _ words settings mark _; do
   [ "$mark" = "$got" ] || wrong "docs/RULES.md: the words$words end in$got, and not in$mark"
   sheets=$((sheets + 1))
 done < <(sed -n '/^## Sheets/,$p' docs/RULES.md | grep '^| [0-9]')
+sed -n '/^given_sheets =/,/^ *∷ \[\]$/p' crates/rules/specs/Sheets.antt | grep -oE 'sheet .*' > "$work/given"
+diff "$work/table" "$work/given" || wrong "docs/RULES.md (<) has other sheets than given_sheets (>)"
 [ "$sheets" -ge 20 ] || wrong "docs/RULES.md: only $sheets sheets were read"
 echo "ok: $sheets sheets in docs/RULES.md"
 

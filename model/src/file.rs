@@ -29,8 +29,8 @@ pub enum Done {
 /// The greatest file that is read.
 pub const FILE_LIMIT: usize = 65_536;
 
-/// A number (rule 7.3): digits alone, none of them a 0 in front, up to
-/// 4,294,967,295.
+/// A number (rule 7.3): digits alone, up to 4,294,967,295, and no 0 in front of
+/// another digit.
 pub fn number(field: &[u8]) -> Option<u32> {
     match field {
         [] => None,

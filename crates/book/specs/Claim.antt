@@ -1,4 +1,4 @@
--- What is claimed of a motor that starts fresh and that nothing but the scans of a list writes: rules 5.5 to 6.5, one claim about the whole list.
+-- What is claimed of a motor that starts fresh and that nothing but the scans of a list writes: rules 5.5 to 6.5.
 use Rattle.std.specs.Prelude.{ℕ, suc, ◌+◌, ◌*◌, ◌≤◌, max, ◌≡◌, ◌↔◌, ◌≢◌, ◌⊎◌, true, false, ◌&&◌}
 use Rattle.words.specs.Word.{when◌then◌else◌, is_set}
 use Rattle.rules.specs.declared.Settings.{Settings}

@@ -12,8 +12,8 @@ use table::MOST_MOTORS;
 use totals::Totals;
 
 // The first `count` elements of the arrays are in use: the motors by rising number, the word that each holds, and their totals.
-// Arrays with a count; one of each kind, since a scan lends the motors and the words as two slices; the
-// totals last, so that a bench is copied faster. No invariant keeps the count within the arrays: it would take fewer benches.
+// One array of each kind, since a scan lends the motors and the words as two slices; the totals last, so that a bench is copied
+// faster. No invariant keeps the count within the arrays: it would take fewer benches.
 #[derive(Clone, Copy, Default)]
 pub struct Bench {
     pub motors: [Motor; MOST_MOTORS],

@@ -1,5 +1,5 @@
-// Runs the scans of docs/RULES.md and each refusal of a single motor through the open functions. That each check holds is proved, by computing it:
-// `expect` asks for it.
+// Runs scans like those of the sheets in docs/RULES.md, and each refusal of a single motor, through the open functions. That each check
+// holds is proved, by computing it: `expect` asks for it.
 #![tactic(auto)]
 
 ghost use Rattle.std.specs.Prelude.{◌≡◌};
@@ -9,7 +9,7 @@ ghost use Rattle.rules.specs.Refusals.{one_after};
 use motor::{accept, scan};
 use rules::{Motor, Refusal, Settings};
 
-// A fresh motor with the settings of those sheets after three scans.
+// A fresh motor with the settings of the sheets after three scans.
 fn after_three(a: u32, b: u32, c: u32, period: u32) -> Motor
     ensures { result ≡ one_after (one_after (one_after (fresh (record { ops1 = 193; ops2 = 0; w = 500; u = 300 })) a 100) b 100) c period }
 {

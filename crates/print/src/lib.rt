@@ -1,5 +1,5 @@
-// The print of a whole file, rule 8: what the lines of a file do to a bench, and what they print, for the walk of crate `course` through them.
-// It comes to `print_of` of the file (proofs/Pieces.antt).
+// The print of a whole file, rule 8: what the lines of a file do to a bench, and what they print, for the walk of crate `course`
+// through them. It comes to `print_of` of the file (proofs/Pieces.antt).
 #![tactic(auto)]
 
 mod lines;

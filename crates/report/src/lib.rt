@@ -1,5 +1,6 @@
-// The lines of the print, rules 8.1 to 8.3, put into a page: a lent buffer with the place up to which it is filled. What is printed is defined in
-// specs/Print.antt; specs/Put.antt and specs/Puts.antt say what putting does to a page of any length, filled up to any place.
+// The lines of the print, rules 8.1 to 8.3, put into a page: a lent buffer with the place up to which it is filled. What is printed
+// is defined in specs/Print.antt; specs/Put.antt and specs/Puts.antt say what putting does to a page of any length, filled up to
+// any place.
 #![tactic(auto)]
 
 mod page;

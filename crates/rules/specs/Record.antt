@@ -1,4 +1,5 @@
--- A motor's settings, input word, commands and record: rules 1 and 2 of docs/RULES.md. Times are milliseconds. Letters: s settings, v status, o output, m record, c a command's number.
+-- A motor's settings, input word, commands and record: rules 1 and 2 of docs/RULES.md. Times are milliseconds.
+-- Letters: s settings, v status, o output, m record, c a command's number.
 -- `x.f` is field f of x; `&&` is and, `||` or, `&&` binds before `||`; `eqb a b` is a = b, `leb a b` is a ≤ b, `ltb a b` is a < b.
 use Rattle.std.specs.Prelude.{ℕ, ◌+◌, Bool, ◌||◌, List, [], ◌∷◌, eqb, not, Option}
 use Rattle.std.specs.Bool.{then_some}
@@ -151,18 +152,18 @@ input_bit c =
     else when eqb c ko_on then 12
     else 32
 
--- Flag k, and the flag of command c overdue: rule 2.2
+-- Flag k stands; which flag says that command c was overdue: rule 2.2
 unfoldable pub flag : Status → ℕ → Bool
 flag v k = is_set k v.flags
 
 unfoldable pub overdue_flag : ℕ → ℕ
 overdue_flag c = 6 + c
 
--- Rising: rule 1.6
+-- Bit k has risen: it is 1 in the word and 0 in the previous one (rule 1.6)
 unfoldable pub bit_risen : Status → ℕ → ℕ → Bool
 bit_risen v word k = rose k word v.previous
 
--- of a command, by its input bit
+-- The input bit of a command has risen
 unfoldable pub command_risen : Status → ℕ → ℕ → Bool
 command_risen v word c = bit_risen v word (input_bit c)
 
@@ -170,7 +171,7 @@ command_risen v word c = bit_risen v word (input_bit c)
 unfoldable pub idle : Status → Bool
 idle v = eqb v.command no_command
 
--- What a dropped output leaves: rule 2.5
+-- What is left of an output that drops: rule 2.5
 unfoldable pub dropped : Output
 dropped = record { state = no_output; sum = 0 }
 

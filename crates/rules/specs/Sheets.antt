@@ -93,7 +93,7 @@ given_sheets =
     ∷ sheet wired (48 ∷ []) (line 2 0 0 0 0 16386)
     ∷ sheet (wiring 193 28 500 300) (48 ∷ []) (line 2 2 0 0 0 16386)
     ∷ sheet (wiring 193 12 500 300) (48 ∷ []) (line 2 1 0 0 0 16386)
-    -- the mode keys
+    -- Repair by its bit alone; two bits change no mode
     ∷ sheet wired (544 ∷ []) (mode ≔ 0 ∷ [])
     ∷ sheet wired (2592 ∷ []) (mode ≔ 2 ∷ [])
     ∷ []
@@ -116,7 +116,7 @@ own_sheets =
     ∷ sheet (wiring 193 24 500 300) (48 ∷ []) (position ≔ 0 ∷ [])
     ∷ sheet (wiring 193 4 500 300) (32 ∷ 48 ∷ 48 ∷ []) (position ≔ 1 ∷ [])
     ∷ sheet wired (32 ∷ 48 ∷ 16 ∷ []) (flags ≔ 4 ∷ [])
-    -- rule 3.3: with U = 0 an output is held, also at a confirmation with OPS_1 bit 7
+    -- rules 2.4, 3.3: with U = 0 an output is held, also at a confirmation with OPS_1 bit 7
     ∷ sheet (wiring 193 0 500 0) (32 ∷ 4128 ∷ 32 ∷ 16 ∷ []) (line 2 2 0 1 1 0)
     ∷ sheet (wiring 193 0 500 1) (32 ∷ 4128 ∷ 32 ∷ []) (output ≔ 0 ∷ [])
     -- rule 3.3: nothing runs while no command and no pulse does

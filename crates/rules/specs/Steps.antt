@@ -14,7 +14,7 @@ use Rattle.rules.specs.declared.Reading.{Reading}
 use Rattle.rules.specs.declared.Reading.TheVariants.{Off, On, BothOpen, BothClosed}
 use Rattle.rules.specs.Record.{ops₁, ops₂, local_mode, on_switch, off_switch, no_supply, forbid_on, forbid_off, reset, repair, reserve, work, unsure, off, on, no_end, end_confirmed, end_displaced, end_overdue, no_output, no_command, commands, sma_off, lz_off, lz_on, ko_off, ko_on, is_mu, is_ko, is_on, is_off, direction, own_output, opposite_output, flag, overdue_flag, bit_risen, command_risen, idle, dropped, with_mode, with_positions, with_command, with_flags, with_previous, with_status}
 
--- Rule 3.1: no end yet; and the twelve flags from flag 2 on, cleared while Reset is 1
+-- Rule 3.1: while Reset is 1, the twelve flags from flag 2 on are cleared; and no command has ended yet
 unfoldable pub flags1 : Status → ℕ → ℕ
 flags1 v word = when reset word then without_bits 2 12 v.flags else v.flags
 
@@ -65,21 +65,21 @@ flags2 v r =
 unfoldable pub pretended : Settings → ℕ → ℕ
 pretended s sure = when not (ops₂ s 2) then unsure else when not (ops₂ s 3) then sure else when ops₂ s 4 then on else off
 
--- Both positions, by a sure reading or without one
+-- Position and last sure position: a sure reading is both of them from now on
 unfoldable pub status2 : Settings → Status → Reading → Status
 status2 s v r =
     with_flags
     (with_positions v (when is_sure r then position_read r else v.sure) (when is_sure r then position_read r else pretended s v.sure))
     (flags2 v r)
 
--- Rule 2.4: running pulses
+-- Rule 2.4: whether outputs are pulses, and whether one is out and so runs
 unfoldable pub outputs_are_pulses : Settings → Bool
 outputs_are_pulses s = ops₁ s 6 && ltb 0 s.u
 
 unfoldable pub running : Settings → Output → Bool
 running s o = not (eqb o.state no_output) && outputs_are_pulses s
 
--- Rule 3.3: both sums; one that is idle stays
+-- Rule 3.3: the period on top of both sums, but for one that is idle
 unfoldable pub step3 : Motor → ℕ → Motor
 step3 m period =
     record {
@@ -93,7 +93,7 @@ step3 m period =
           };
     }
 
--- Rule 3.4, the command under way: confirmed by the reading, or else overdue if its time is up (`up`)
+-- Rule 3.4, the command under way: the reading confirms it, or else it is overdue if its time is up (`up`)
 unfoldable pub confirms : Reading → ℕ → Bool
 confirms r c = is_sure r && eqb (position_read r) (direction c)
 
@@ -140,17 +140,19 @@ step4 m r =
       output = when drops m r then dropped else m.output;
     }
 
--- Rule 3.5: where the three flags of faults are formed at all
+-- Rule 3.5: flags 0, 1 and 14 are formed, outside local mode and, by either option, in it
 unfoldable pub faults_formed : Settings → ℕ → Bool
 faults_formed s word = ops₂ s 1 || not (local_mode word) || ops₁ s 2
 
--- Flag 0; flag 1; flag 14
+-- flag 0: no supply, where the input is heeded
 unfoldable pub supply_fault : Settings → ℕ → Bool
 supply_fault s word = faults_formed s word && no_supply word && ops₁ s 1
 
+-- flag 1: a switch fault, which a command under way hides
 unfoldable pub switch_fault : Settings → Status → ℕ → Reading → Bool
 switch_fault s v word r = faults_formed s word && not (is_sure r) && idle v
 
+-- flag 14: a switch fault with both switches closed
 unfoldable pub closed_fault : Settings → Status → ℕ → Reading → Bool
 closed_fault s v word r = switch_fault s v word r && both_closed r
 
@@ -162,22 +164,23 @@ unfoldable pub status5 : Settings → Status → ℕ → Reading → Status
 status5 s v word r =
     with_flags v (put_flag 14 (closed_fault s v word r) (put_flag 1 (switch_fault s v word r) (put_flag 0 (supply_fault s word) v.flags)))
 
--- Rule 3.6: how many mode keys have risen
+-- Rule 3.6: how many of the three bits that ask for a mode have risen
 unfoldable pub modes_risen : Status → ℕ → ℕ
 modes_risen v word =
     (when bit_risen v word 9 then 1 else 0) + (when bit_risen v word 10 then 1 else 0) + (when bit_risen v word 11 then 1 else 0)
 
--- the mode that the only one asks for
+-- the mode that is asked for, if just one has
 unfoldable pub mode_asked : Status → ℕ → ℕ
 mode_asked v word = when bit_risen v word 9 then repair else when bit_risen v word 10 then reserve else work
 
--- what each mode wants of position and faults
+-- Reserve needs no fault, unless its option lets it pass; Repair and Reserve need position Off, Work nothing
 unfoldable pub reserve_allowed : Settings → Status → Bool
 reserve_allowed s v = (not (flag v 1) || ops₁ s 13) && (not (flag v 0) || ops₁ s 14)
 
 unfoldable pub mode_allowed : Settings → Status → ℕ → Bool
 mode_allowed s v mode = (eqb mode work || eqb v.position off) && (not (eqb mode reserve) || reserve_allowed s v)
 
+-- the mode changes: no local mode, one bit alone, no command under way, none that rises, and it is allowed
 unfoldable pub mode_changes : Settings → Status → ℕ → Bool
 mode_changes s v word =
     not (local_mode word) && eqb (modes_risen v word) 1 && idle v && not (list_any (command_risen v word) commands)
@@ -201,34 +204,34 @@ flags7 s v word =
 unfoldable pub status7 : Settings → Status → ℕ → Status
 status7 s v word = with_flags v (flags7 s v word)
 
--- a rise that acknowledges, and so is no command
+-- the rise of c acknowledges, and so is no command
 unfoldable pub acknowledges : Settings → Status → ℕ → ℕ → Bool
 acknowledges s v word c = eqb c ko_off && acknowledges_off s v word || eqb c ko_on && acknowledges_on s v word
 
 -- Rule 3.8. Step 8 is handed the status as step 6 left it: whether a rise acknowledged is seen by flags 4 to 6 as they stood before step 7
 -- cleared them. All else that it reads (mode, position, command, flag 0, previous word) step 7 leaves alone.
--- What bars a risen command: local mode, or the lack of it
+-- Local mode bars the operator's commands, its lack those of the local panel.
 unfoldable pub wrong_place : ℕ → ℕ → Bool
 wrong_place word c = is_ko c && local_mode word || is_mu c && not (local_mode word)
 
--- the input that forbids on
+-- Forbid on bars KO on, and by its option every on command.
 unfoldable pub on_forbidden : Settings → ℕ → ℕ → Bool
 on_forbidden s word c = forbid_on word && (eqb c ko_on || is_on c && ops₁ s 5)
 
--- the input that forbids off
+-- Forbid off bars KO off, and by its option every off command but SMA.
 unfoldable pub off_forbidden : Settings → ℕ → ℕ → Bool
 off_forbidden s word c = forbid_off word && (eqb c ko_off || is_off c && not (eqb c sma_off) && ops₁ s 4)
 
--- none of these, nor Repair, nor a lack of supply
+-- Repair bars all, flag 0 the on commands; what is not barred is admitted.
 unfoldable pub admitted : Settings → Status → ℕ → ℕ → Bool
 admitted s v word c =
     not (eqb v.mode repair) && not (wrong_place word c || on_forbidden s word c || off_forbidden s word c || flag v 0 && is_on c)
 
--- a candidate
+-- A candidate has risen, does not acknowledge, and is admitted.
 unfoldable pub candidate : Settings → Status → ℕ → ℕ → Bool
 candidate s v word c = command_risen v word c && not (acknowledges s v word c) && admitted s v word c
 
--- The chosen one: the strongest candidate
+-- The strongest candidate is chosen: `commands` has the strongest first.
 unfoldable pub first_of : (ℕ → Bool) → List ℕ → ℕ
 first_of test [] = no_command
 first_of test (c ∷ cs) = when test c then c else first_of test cs
@@ -236,11 +239,11 @@ first_of test (c ∷ cs) = when test c then c else first_of test cs
 unfoldable pub chosen : Settings → Status → ℕ → ℕ
 chosen s v word = first_of (candidate s v word) commands
 
--- It starts, if no command is under way, from any position but its own.
+-- With no command under way the chosen one is issued, unless the motor stands in its direction.
 unfoldable pub starts : ℕ → ℕ → Bool
 starts new position = not (eqb new no_command) && not (eqb position (direction new))
 
--- It displaces the old one, which is under way, if it is stronger, and of the other direction or SMA.
+-- It displaces the old one, which is under way, if it is stronger, and goes the other way or is SMA.
 unfoldable pub displaces : ℕ → ℕ → Bool
 displaces new old = not (eqb new no_command) && ltb new old && (not (eqb (direction new) (direction old)) || eqb new sma_off)
 
@@ -251,19 +254,19 @@ issues v new = when idle v then starts new v.position else displaces new v.comma
 unfoldable pub issued : Settings → Status → ℕ → ℕ
 issued s v word = when issues v (chosen s v word) then chosen s v word else no_command
 
--- Rule 3.9, issuing c: flags 4 to 6
+-- Rule 3.9, issuing c: its direction clears flags 5 and 6, or 4; LZ on, LZ off and SMA then set one of their own
 unfoldable pub flags9 : ℕ → ℕ → ℕ
 flags9 c flags =
     let f = when is_on c then without_bits 5 2 flags else without_bit 4 flags in
     when eqb c lz_on then with_bit 4 f else when eqb c lz_off then with_bit 5 f else when eqb c sma_off then with_bit 6 f else f
 
--- the mode, from Reserve to Work by the option of the command
+-- Reserve turns to Work, by an option for each of four commands
 unfoldable pub turns_to_work : Settings → Status → ℕ → Bool
 turns_to_work s v c =
     eqb v.mode reserve
     && (eqb c lz_on && ops₁ s 8 || eqb c lz_off && ops₁ s 9 || eqb c ko_on && ops₁ s 10 || eqb c ko_off && ops₁ s 11)
 
--- One that was under way ends displaced; without one the end of step 4 stays.
+-- The status after it: a command that was under way has ended displaced; without one the end of step 4 stays.
 unfoldable pub issue_status : Settings → Status → ℕ → Status
 issue_status s v c =
     with_flags (with_mode (with_command v c (when idle v then v.end else end_displaced)) (when turns_to_work s v c then work else v.mode))
@@ -272,7 +275,7 @@ issue_status s v c =
 unfoldable pub status9 : Settings → Status → ℕ → Status
 status9 s v c = when eqb c no_command then v else issue_status s v c
 
--- whether an output is raised: three options can keep it from that
+-- It raises its output, unless one of three options keeps it from that.
 unfoldable pub raises : Settings → ℕ → Bool
 raises s c = not (eqb c sma_off && not (ops₁ s 12) || is_mu c && not (ops₁ s 2) || is_off c && not (ops₁ s 6))
 

@@ -16,7 +16,7 @@ const MODE_BITS: u32 = 3584;
 // Bit 11, the last of them.
 const LAST_MODE_BIT: u32 = 2048;
 
-// Whether exactly one of bits 9 to 11 has risen.
+// Whether just one of the bits that ask for a mode has risen.
 pub fn is_one_mode_risen(v: Status, word: u32) -> bool
     ensures { result ≡ eqb (modes_risen v word) 1 }
 {

@@ -1,5 +1,5 @@
-// Running totals of a motor, for rule 8.3: what is counted and added up scan by scan, so that a file's end can print it. The totals themselves
-// are definitions over the motor's history, in specs/Totals.antt.
+// Running totals of a motor, for rule 8.3: what is counted and added up scan by scan, so that a file's end can print it. The totals
+// themselves are definitions over the motor's history, in specs/Totals.antt.
 #![tactic(auto)]
 
 ghost use Rattle.std.specs.Prelude.{◌+◌, ◌≡◌};

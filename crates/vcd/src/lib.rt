@@ -1,5 +1,5 @@
-// The lines of a value change dump (IEEE 1364), rules 9.1 to 9.3, put into a page. What they are is defined in specs/Text.antt, and what a dump says
-// to a reader in specs/Reader.antt.
+// The lines of a value change dump (IEEE 1364), rules 9.1 to 9.3, put into a page. What they are is defined in specs/Text.antt, and
+// what a dump says to a reader in specs/Reader.antt.
 #![tactic(auto)]
 
 ghost use Rattle.std.specs.Prelude.{◌≡◌, [], ◌∷◌};
