@@ -13,6 +13,7 @@
 //! * [`book`]: the book of commands, kept from a motor's history alone;
 //! * [`totals`]: the totals of a sitting, counted from the book;
 //! * [`sheets`]: the sheets of the rule book and others worked by hand;
+//! * [`sensors`]: the sensor block, one value of three readings;
 //! * [`ends`]: files with an LF at each of the first places;
 //! * [`words`]: files with each way of writing a word, right and wrong;
 //! * [`story`]: random files, whole and damaged, repeatable from a seed;
@@ -42,6 +43,7 @@ pub mod file;
 pub mod outside;
 pub mod record;
 pub mod rules;
+pub mod sensors;
 pub mod sheets;
 pub mod shrink;
 pub mod story;

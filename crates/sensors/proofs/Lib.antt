@@ -1,0 +1,6 @@
+pub mod Literals
+pub mod Trust
+pub mod Ranks
+pub mod Bounds
+pub mod Within
+pub mod Sheets

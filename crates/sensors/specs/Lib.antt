@@ -1,0 +1,3 @@
+pub mod Sensors
+pub mod Opened
+pub mod Sheets

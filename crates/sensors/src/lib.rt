@@ -1,0 +1,84 @@
+// The sensor block: one value, or none, of three sensors on one bearing, in automatic mode, and what is wrong with them. Rule 11; its
+// definitions are in specs/Sensors.antt.
+#![tactic(auto, unfolding(crate::specs::Opened::opened))]
+
+mod answers;
+mod inputs;
+mod means;
+mod order;
+
+ghost use Rattle.std.specs.Prelude.{◌≡◌, IfOk, IfSome};
+ghost use Rattle.sensors.specs.Sensors.{answer_of, refusal_of, code_of, value_of, IsWithin};
+ghost use Rattle.sensors.specs.Sheets.{AreRight, given_sheets};
+
+// One of the three sensors.
+#[derive(Clone, Copy)]
+enum Sensor {
+    First,
+    Second,
+    Third,
+}
+
+/// The readings of sensors 1 to 3, the limit of what two of them may differ by, in the same unit, and for each sensor a mark that its
+/// reading is not to be trusted. Any numbers are taken, also infinities and NaN: rule 11.1.
+#[derive(Clone, Copy, Debug, PartialEq)]
+pub struct Sensors {
+    pub first: f32,
+    pub second: f32,
+    pub third: f32,
+    pub limit: f32,
+    pub first_marked: bool,
+    pub second_marked: bool,
+    pub third_marked: bool,
+}
+
+/// The value that the block makes, a number of at most 1,000,000 in size, or that there is none.
+#[derive(Clone, Copy, Debug, PartialEq)]
+pub enum Value {
+    Known(f32),
+    Absent,
+}
+
+/// The error flags Y1 to Y5: rule 11.2.
+#[derive(Clone, Copy, Debug, PartialEq, Eq)]
+pub struct Flags {
+    /// Y1: two or three sensors are not trusted.
+    pub error: bool,
+    /// Y2: of two trusted sensors, or of all three, none agrees with another.
+    pub mismatch: bool,
+    /// Y3, of sensor 1.
+    pub first: bool,
+    /// Y4, of sensor 2.
+    pub second: bool,
+    /// Y5, of sensor 3.
+    pub third: bool,
+}
+
+/// The value beside the error flags.
+#[derive(Clone, Copy, Debug, PartialEq)]
+pub struct Answer {
+    pub value: Value,
+    pub flags: Flags,
+}
+
+/// What a call is refused for, with its number: rule 11.3.
+#[derive(Clone, Copy, Debug, PartialEq, Eq)]
+pub enum Refusal {
+    /// The limit is below 0 or not finite.
+    Limit = 11,
+}
+
+/// The answer of three sensors, by bits 0, 5, 6, 7 and 8 of the option word; its other bits have no effect. Where the limit is below 0 or
+/// not finite the call is refused, whatever else it is handed: rule 11.
+#[tactic(auto, using(crate::proofs::Within::answer_within, crate::proofs::Sheets::are_right), unfolding(words::specs::Opened::choices, crate::specs::Sensors::answer_of, crate::specs::Sensors::refusal_of))]
+pub fn combine(sensors: Sensors, options: u32) -> Result<Answer, Refusal>
+    ensures answer { result ≡ answer_of sensors options }
+    ensures number { code_of result ≡ refusal_of sensors }
+    ensures within { IfOk result (λ answer. IfSome (value_of answer.value) IsWithin) }
+    ensures sheets { AreRight given_sheets }
+{
+    if !sensors.is_limit_allowed() {
+        return Err(Refusal::Limit);
+    }
+    Ok(sensors.of_trusted(options))
+}

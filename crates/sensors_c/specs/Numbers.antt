@@ -1,0 +1,44 @@
+-- Sensors and answers as numbers, for programs in other languages.
+use Rattle.std.specs.Prelude.{ℕ, ◌+◌, Bool, Result, Ok, Err, is_some, unwrap_or}
+use Rattle.std.specs.Float.{Float}
+use Rattle.words.specs.Word.{when◌then◌else◌, is_set}
+use Rattle.sensors.specs.declared.Sensors.{Sensors}
+use Rattle.sensors.specs.declared.Answer.{Answer}
+use Rattle.sensors.specs.declared.Refusal.{Refusal}
+use Rattle.sensors.specs.Sensors.{value_of}
+
+-- four numbers, and marks by the bits 0 to 2
+unfoldable pub sensors_of : Float → Float → Float → Float → ℕ → Sensors
+sensors_of first second third limit marks = record {
+  first = first;
+  second = second;
+  third = third;
+  limit = limit;
+  first_marked = is_set 0 marks;
+  second_marked = is_set 1 marks;
+  third_marked = is_set 2 marks;
+}
+
+-- n, if the test holds
+unfoldable pub weight : Bool → ℕ → ℕ
+weight test n = when test then n else 0
+
+-- Y1 to Y5 in bits 0 to 4, and in bit 5 whether there is a value
+unfoldable pub number_of_flags : Answer → ℕ
+number_of_flags a =
+    weight a.flags.error 1 + weight a.flags.mismatch 2
+    + (weight a.flags.first 4 + weight a.flags.second 8 + weight a.flags.third 16)
+    + weight (is_some (value_of a.value)) 32
+
+-- what is left in the place of the flags, and in that of the value, of what stood there and what is answered
+unfoldable pub flags_after : ℕ → Result Answer Refusal → ℕ
+flags_after old (Ok a) = number_of_flags a
+flags_after old (Err r) = old
+
+unfoldable pub value_after : Float → Result Answer Refusal → Float
+value_after old (Ok a) = unwrap_or (value_of a.value) old
+value_after old (Err r) = old
+
+unfoldable pub opened : Type 0
+unfolding when◌then◌else◌ weight number_of_flags flags_after value_after sensors_of
+opened = Unit {0}
