@@ -88,6 +88,35 @@ shows docs/CANDIDATE.md '^M,' "$(cat sheets/displaced.txt)"
 shows docs/EXAMINER.md '^#0' "$(sed -n '/^#0/,$p' sheets/totals.vcd)"
 [ "$(grep -E '^Print: ' docs/CANDIDATE.md | grep -oE '[RT],[0-9,]+')" = "$(cat sheets/displaced.print)" ] || wrong "docs/CANDIDATE.md prints something else than sheets/displaced.print"
 
+# the sheets of the sensor block, whose readings are written as sensors_main prints them
+sheets=0
+while IFS='|' read -r readings limit marked options answer; do
+  readings=${readings//1e-45/0.000000000000000000000000000000000000000000001}
+  line="readings $readings, limit $limit, marks"
+  for sensor in first second third; do [[ $marked == *${sensor}_marked* ]] && line+=" 1" || line+=" 0"; done
+  line+=", options $options: "
+  if [[ $answer == *Limit* ]]; then line+="refused by 11"; else
+    bits=$(grep -oE 'bits [0-9a-fx_]+' <<< "$answer" | sed 's/bits //; s/0x//; s/_//') || true
+    [ -z "$bits" ] && line+="value none" || line+="value .* \($(printf '%8s' "$bits" | tr ' ' 0)\)"
+    line+=", flags"
+    for y in 1 2 3 4 5; do grep -qE "[ (]$y ∷" <<< "$answer" && line+=" 1" || line+=" 0"; done
+  fi
+  grep -qE -- "^$line$" crates/sensors_main/stdout || wrong "sensors_main does not print what given_sheets has: $line"
+  sheets=$((sheets + 1))
+done < <(sed -nE 's/^.*sheet \((record \()?three "([^"]+)" "([^"]+)" "([^"]+)" "([^"]+)"\)( \{([^}]*)\}\))? ([0-9]+) /\2 \3 \4|\5|\7|\8|/p' crates/sensors/specs/Sheets.antt)
+[ "$sheets" -ge 24 ] && [ "$sheets" -eq "$(grep -cE '^ *(∷ )?sheet \(' crates/sensors/specs/Sheets.antt)" ] || wrong "only $sheets of given_sheets were read"
+# and the lines of docs/SENSORS.md
+lines=0
+while IFS= read -r line; do
+  grep -qxF -- "$line" crates/sensors_main/stdout || wrong "docs/SENSORS.md shows what sensors_main does not print: $line"
+  lines=$((lines + 1))
+done < <(sed -n 's/^    readings /readings /p' docs/SENSORS.md)
+[ "$lines" -ge 3 ] || wrong "docs/SENSORS.md shows $lines lines of sensors_main only"
+grep -qF "has $(wc -l < crates/sensors_main/stdout) such lines" docs/SENSORS.md || wrong "docs/SENSORS.md gives another number of lines"
+# the table of rule 11.7 has its definitions in the order in which they stand
+rows=$(sed -n '/^\*\*11\.7 /,/^> /p' docs/RULES.md | grep -oE '`[a-z_]+` \|$' | tr -d '`| ')
+[ -n "$rows" ] && [ "$rows" = "$(grep -oE '^[a-z_]+ ' crates/sensors/specs/Sensors.antt | tr -d ' ' | grep -xF "$rows" | uniq)" ] || wrong "docs/RULES.md: the rows of rule 11.7 stand in another order than their definitions"
+
 # docs/READING.md shows each sign in a piece of the definitions or the contracts
 pieces=0
 while IFS= read -r piece; do

@@ -1,4 +1,4 @@
--- Each value that is answered is a number of at most 1,000,000 in size: rule 11.8.
+-- Each value that is answered is a number of at most 1,000,000 in magnitude: rule 11.8.
 use Rattle.std.proofs.Common.{◌≡◌, ℕ, ◌*◌, Bool, true, false, refl, arith}
 use Rattle.std.proofs.lemmas.Float.{T_from_true}
 use Rattle.std.proofs.Math.Nat.{le_trans, le_of_eq, mul-one}

@@ -47,7 +47,7 @@ value_of Absent = None
 unfoldable pub no_flags : Flags
 no_flags = record { error = false; mismatch = false; first = false; second = false; third = false }
 
--- the flag of sensor n alone, and those of the two others
+-- the flag of sensor n alone, and those of the other two
 unfoldable pub own_flag : Sensor → Flags
 own_flag First = record no_flags { first = true }
 own_flag Second = record no_flags { second = true }
@@ -75,7 +75,7 @@ refusal_of s = when limit_allowed s.limit then 0 else 11
 
 -- ---- 11.4 Trusted readings
 
--- a number, its sign aside, is at most 1,000,000
+-- not marked, finite, and at most 1,000,000 in magnitude
 unfoldable pub is_trusted : Sensors → Sensor → Bool
 is_trusted s n = not (is_marked s n) && (float_is_finite (reading s n) && le (float_with_sign false (reading s n)) (float_of 1000000))
 
@@ -87,7 +87,7 @@ mean_of_two s i j = div binary32 (add binary32 (reading s i) (reading s j)) (flo
 unfoldable pub mean_of_three : Sensors → Float
 mean_of_three s = div binary32 (add binary32 (add binary32 s.first s.second) s.third) (float_of 3)
 
--- the mean of the two others
+-- the mean of the two that are not n
 unfoldable pub mean_without : Sensors → Sensor → Float
 mean_without s First = mean_of_two s Second Third
 mean_without s Second = mean_of_two s First Third
@@ -99,7 +99,7 @@ mean_without s Third = mean_of_two s First Second
 unfoldable pub is_smaller : Sensors → Sensor → Sensor → Bool
 is_smaller s i j = lt (reading s i) (reading s j) || (eq (reading s i) (reading s j) && comes_before i j)
 
--- how many sensors count as smaller than n, and the sensor of which k do
+-- how many sensors count as smaller than n, and the sensor where these are k: 0, 1 or 2
 unfoldable pub rank : Sensors → Sensor → ℕ
 rank s n = (when is_smaller s First n then 1 else 0) + (when is_smaller s Second n then 1 else 0) + (when is_smaller s Third n then 1 else 0)
 
@@ -189,7 +189,7 @@ trusted_answer s options = by_trust (is_trusted s First) (is_trusted s Second) (
 unfoldable pub answer_of : Sensors → ℕ → Result Answer Refusal
 answer_of s options = when eqb (refusal_of s) 0 then Ok (trusted_answer s options) else Err Limit
 
--- ---- 11.8 What holds of a value: it is a number, and at most 1,000,000 in size
+-- ---- 11.8 What holds of a value: it is a number of at most 1,000,000 in magnitude
 
 abbrev pub IsWithin : Float → Type 0
 IsWithin x = NotNan x × (float_with_sign false x ≤ᶠ float_of 1000000)

@@ -62,34 +62,47 @@ AreRight ts = map (λ (t : Sheet). answer_of t.sensors t.options) ts ≡ map (λ
 
 unfoldable pub given_sheets : List Sheet
 given_sheets =
-    -- three trusted. Both differences pass, one at the limit: the middle one, by bit 5 the mean; of equal readings the lower-numbered
-    -- counts as smaller
+    -- three trusted. Both differences pass, one at the limit: the middle one, by bit 5 the mean; other bits have no effect. A difference
+    -- is rounded. Of equal readings the lower-numbered counts as smaller
     sheet (three "10" "13" "12" "2") 0 (gives (bits 0x4140_0000) [])
     ∷ sheet (three "10" "13" "12" "2") 32 (gives (bits 0x413a_aaab) [])
+    ∷ sheet (three "10" "13" "12" "2") 448 (gives (bits 0x4140_0000) [])
+    ∷ sheet (three "10" "13" "12" "2") 4294966814 (gives (bits 0x4140_0000) [])
+    ∷ sheet (three "65536" "-0.001953125" "-0.001953125" "65536") 0 (gives (bits 0xbb00_0000) [])
     ∷ sheet (three "0" "-0" "5" "10") 0 (gives (bits 0x8000_0000) [])
+    ∷ sheet (three "0" "5" "-0" "10") 0 (gives (bits 0x8000_0000) [])
+    ∷ sheet (three "-0" "0" "-0" "0") 0 (gives (bits 0) [])
     -- a mean adds in sensor order, and can lie outside its readings
     ∷ sheet (three "131072" "0.0078125" "0.0078125" "1000000") 32 (gives (bits 0x472a_aaab) [])
     ∷ sheet (three "0.0078125" "0.0078125" "131072" "1000000") 32 (gives (bits 0x472a_aaac) [])
     ∷ sheet (three "43.789787" "43.789787" "43.789787" "0") 32 (gives (bits 0x422f_28bd) [])
+    ∷ sheet (three "-0" "-0" "-0" "0") 32 (gives (bits 0x8000_0000) [])
     -- one fails, of each sensor; bits 0, 5 and 7 are not asked
     ∷ sheet (three "1" "11" "12" "2") 161 (gives (bits 0x4138_0000) (3 ∷ []))
     ∷ sheet (three "12" "1" "11" "2") 0 (gives (bits 0x4138_0000) (4 ∷ []))
     ∷ sheet (three "10" "11" "20" "2") 0 (gives (bits 0x4128_0000) (5 ∷ []))
     -- both fail; by bit 0 no sensor is flagged, by bit 7 there is no value
     ∷ sheet (three "1" "11" "30" "2") 32 (gives (bits 0x4130_0000) (2 ∷ 3 ∷ 5 ∷ []))
+    ∷ sheet (three "11" "1" "30" "2") 0 (gives (bits 0x4130_0000) (2 ∷ 4 ∷ 5 ∷ []))
     ∷ sheet (three "11" "1" "30" "2") 1 (gives (bits 0x4130_0000) (2 ∷ []))
     ∷ sheet (three "1" "30" "11" "2") 128 (gives Absent (2 ∷ 3 ∷ 4 ∷ []))
     -- two trusted: the higher-numbered, by bit 6 the lower-numbered, by bit 8 or bit 5 their mean; bits 0 and 7 are not asked
     ∷ sheet (record (three "1" "2" "4" "5") { first_marked = true }) 0 (gives (bits 0x4080_0000) [])
     ∷ sheet (record (three "1" "2" "4" "1") { second_marked = true }) 193 (gives (bits 0x3f80_0000) (2 ∷ []))
     ∷ sheet (three "2" "1" "NaN" "0.5") 256 (gives (bits 0x3fc0_0000) (2 ∷ []))
-    -- 1,000,000 is trusted either way, and the next number is not
-    ∷ sheet (three "1000000" "-1000000" "1000000.0625" "1000000") 32 (gives (bits 0) (2 ∷ []))
+    ∷ sheet (record (three "1" "2" "4" "3") { first_marked = true }) 96 (gives (bits 0x4040_0000) [])
+    ∷ sheet (record (three "1" "2" "4" "3") { third_marked = true }) 320 (gives (bits 0x3fc0_0000) [])
+    ∷ sheet (three "-0" "-0" "NaN" "0") 32 (gives (bits 0x8000_0000) [])
+    ∷ sheet (three "1e-45" "1e-45" "NaN" "0") 32 (gives (bits 1) [])
+    -- 1,000,000 is trusted either way, and the next number, 1,000,000.0625, is not
+    ∷ sheet (three "1000000" "-1000000" "1000000.06" "1000000") 32 (gives (bits 0) (2 ∷ []))
     -- a difference of 65536.001953125 is rounded to 65536, which is not above the limit
     ∷ sheet (three "65536" "-0.001953125" "inf" "65536") 64 (gives (bits 0x4780_0000) [])
     -- one trusted, by bit 7 no value; none trusted
-    ∷ sheet (three "-inf" "2" "-1000000.0625" "1") 0 (gives (bits 0x4000_0000) (1 ∷ []))
-    ∷ sheet (record (three "1" "2" "3" "1") { first_marked = true; second_marked = true }) 128 (gives Absent (1 ∷ []))
+    ∷ sheet (three "-inf" "2" "-1000000.06" "1") 0 (gives (bits 0x4000_0000) (1 ∷ []))
+    ∷ sheet (record (three "1" "2" "3" "1") { first_marked = true; second_marked = true }) 0 (gives (bits 0x4040_0000) (1 ∷ []))
+    ∷ sheet (record (three "1" "2" "3" "1") { second_marked = true; third_marked = true }) 0 (gives (bits 0x3f80_0000) (1 ∷ []))
+    ∷ sheet (record (three "1" "2" "3" "1") { second_marked = true; third_marked = true }) 128 (gives Absent (1 ∷ []))
     ∷ sheet (record (three "1" "NaN" "3" "1") { first_marked = true; third_marked = true }) 0 (gives Absent (1 ∷ []))
     -- a limit that is refused, whatever else; -0 is not
     ∷ sheet (three "NaN" "2" "3" "-1") 0 (Err Limit)

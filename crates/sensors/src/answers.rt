@@ -15,7 +15,7 @@ const NO_FLAGS: Flags = Flags {
     third: false,
 };
 
-// The flag of a sensor alone, and those of the two others.
+// The flag of a sensor alone, and those of the other two.
 fn own_flag(n: Sensor) -> Flags
     ensures { result ≡ own_flag n }
 {

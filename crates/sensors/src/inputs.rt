@@ -6,8 +6,8 @@ ghost use Rattle.sensors.specs.Sensors.{reading, is_marked, is_trusted, limit_al
 
 use crate::{Sensor, Sensors};
 
-// The greatest size of a reading that is trusted.
-const GREATEST: f32 = 1_000_000.0;
+// The greatest magnitude of a reading that is trusted.
+const MOST: f32 = 1_000_000.0;
 
 impl Sensors {
     pub(crate) fn reading(self, n: Sensor) -> f32
@@ -35,7 +35,7 @@ impl Sensors {
         ensures { result ≡ is_trusted self n }
     {
         let x = self.reading(n);
-        !self.is_marked(n) & (x.is_finite() & (x.abs() <= GREATEST))
+        !self.is_marked(n) & (x.is_finite() & (x.abs() <= MOST))
     }
 
     #[tactic(auto, using(crate::proofs::Literals::zero_is), unfolding(crate::specs::Sensors::limit_allowed))]

@@ -19,8 +19,8 @@ enum Sensor {
     Third,
 }
 
-/// The readings of sensors 1 to 3, the limit of what two of them may differ by, in the same unit, and for each sensor a mark that its
-/// reading is not to be trusted. Any numbers are taken, also infinities and NaN: rule 11.1.
+/// The readings of sensors 1 to 3, the limit of their differences (rule 11.6), in the same unit, and for each sensor a mark that its reading
+/// is not to be trusted. Any `f32` is taken, infinities and NaN too: rule 11.1.
 #[derive(Clone, Copy, Debug, PartialEq)]
 pub struct Sensors {
     pub first: f32,
@@ -32,7 +32,7 @@ pub struct Sensors {
     pub third_marked: bool,
 }
 
-/// The value that the block makes, a number of at most 1,000,000 in size, or that there is none.
+/// The value that the block makes, a number of at most 1,000,000 in magnitude, or that there is none.
 #[derive(Clone, Copy, Debug, PartialEq)]
 pub enum Value {
     Known(f32),
@@ -44,13 +44,13 @@ pub enum Value {
 pub struct Flags {
     /// Y1: two or three sensors are not trusted.
     pub error: bool,
-    /// Y2: of two trusted sensors, or of all three, none agrees with another.
+    /// Y2: two sensors are trusted, and their difference fails; or three are, and both differences fail.
     pub mismatch: bool,
-    /// Y3, of sensor 1.
+    /// Y3, of sensor 1: it is the outer one of a difference that fails, unless both fail and bit 0 is 1.
     pub first: bool,
-    /// Y4, of sensor 2.
+    /// Y4, the same of sensor 2.
     pub second: bool,
-    /// Y5, of sensor 3.
+    /// Y5, the same of sensor 3.
     pub third: bool,
 }
 

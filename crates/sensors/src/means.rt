@@ -21,7 +21,7 @@ impl Sensors {
         (self.first + self.second + self.third) / 3.0
     }
 
-    // The mean of the two others than n.
+    // The mean of the two that are not n.
     #[tactic(auto, unfolding(crate::specs::Sensors::mean_without))]
     pub(crate) fn mean_without(self, n: Sensor) -> f32
         ensures { result ≡ mean_without self n }

@@ -14,7 +14,7 @@ pub(crate) struct Order {
     pub(crate) greatest: Sensor,
 }
 
-fn rising(least: Sensor, middle: Sensor, greatest: Sensor) -> Order
+fn in_order(least: Sensor, middle: Sensor, greatest: Sensor) -> Order
     ensures { result ≡ record { least = least; middle = middle; greatest = greatest } }
 {
     Order {
@@ -46,7 +46,7 @@ impl Sensors {
         }
     }
 
-    // Of equal readings the lower-numbered counts as smaller. (1 at most 2 and 2 at most 3, but 1 above 3, is not possible.)
+    // Of equal readings the lower-numbered counts as smaller. A test that is passed over (`_`) follows from the two others.
     #[tactic(auto, using(crate::proofs::Ranks::least_is, crate::proofs::Ranks::middle_is, crate::proofs::Ranks::greatest_is), unfolding(words::specs::Opened::choices))]
     pub(crate) fn order(self) -> Order
         requires { AreTrusted self }
@@ -58,12 +58,12 @@ impl Sensors {
         let first_third = self.first <= self.third;
         let second_third = self.second <= self.third;
         match (first_second, first_third, second_third) {
-            (true, _, true) => rising(Sensor::First, Sensor::Second, Sensor::Third),
-            (true, true, false) => rising(Sensor::First, Sensor::Third, Sensor::Second),
-            (true, false, false) => rising(Sensor::Third, Sensor::First, Sensor::Second),
-            (false, true, _) => rising(Sensor::Second, Sensor::First, Sensor::Third),
-            (false, false, true) => rising(Sensor::Second, Sensor::Third, Sensor::First),
-            (false, false, false) => rising(Sensor::Third, Sensor::Second, Sensor::First),
+            (true, _, true) => in_order(Sensor::First, Sensor::Second, Sensor::Third),
+            (true, true, false) => in_order(Sensor::First, Sensor::Third, Sensor::Second),
+            (true, false, false) => in_order(Sensor::Third, Sensor::First, Sensor::Second),
+            (false, true, _) => in_order(Sensor::Second, Sensor::First, Sensor::Third),
+            (false, false, true) => in_order(Sensor::Second, Sensor::Third, Sensor::First),
+            (false, false, false) => in_order(Sensor::Third, Sensor::Second, Sensor::First),
         }
     }
 }

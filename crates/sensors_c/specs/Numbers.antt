@@ -30,11 +30,12 @@ number_of_flags a =
     + (weight a.flags.first 4 + weight a.flags.second 8 + weight a.flags.third 16)
     + weight (is_some (value_of a.value)) 32
 
--- what is left in the place of the flags, and in that of the value, of what stood there and what is answered
-unfoldable pub flags_after : ℕ → Result Answer Refusal → ℕ
-flags_after old (Ok a) = number_of_flags a
-flags_after old (Err r) = old
+-- what is left in the place of the flags: none where the call is refused
+unfoldable pub flags_after : Result Answer Refusal → ℕ
+flags_after (Ok a) = number_of_flags a
+flags_after (Err r) = 0
 
+-- what is left in the place of the value: what stood there, where there is none
 unfoldable pub value_after : Float → Result Answer Refusal → Float
 value_after old (Ok a) = unwrap_or (value_of a.value) old
 value_after old (Err r) = old

@@ -27,9 +27,12 @@ fn number_of_flags(answer: Answer) -> u32
     weight(flags.error, 1) + weight(flags.mismatch, 2) + own + known
 }
 
-/// The answer of three sensors: rule 11. Bits 0 to 2 of `marks` mark the readings of sensors 1 to 3. The number of the refusal comes back,
-/// 11, and value and flags stay; or 0, with the flags Y1 to Y5 in bits 0 to 4 of `flags`, and in bit 5 whether there is a value. If there
-/// is, it is put in `value`, which otherwise stays.
+/// The answer of three sensors: rule 11. Bits 0 to 2 of `marks` mark the readings of sensors 1 to 3, and its other bits have no effect. 0
+/// comes back, or 11 where the call is refused. `flags` is left with the flags Y1 to Y5 in bits 0 to 4, and with bit 5 where there is a
+/// value; where the call is refused it is left 0. `value` is left with the value, or as it was where there is none.
+///
+/// In C: `uint32_t sensors_combine(float first, float second, float third, float limit, uint32_t marks, uint32_t options, float *value,
+/// uint32_t *flags)`, where the pointers point to two variables that hold something.
 #[unsafe(no_mangle)]
 pub extern "C" fn sensors_combine(
     first: f32,
@@ -42,7 +45,7 @@ pub extern "C" fn sensors_combine(
     flags: &mut u32,
 ) -> u32
     ensures number { result ≡ refusal_of (sensors_of first second third limit marks) }
-    ensures flags { flags.new ≡ flags_after flags.old (answer_of (sensors_of first second third limit marks) options) }
+    ensures flags { flags.new ≡ flags_after (answer_of (sensors_of first second third limit marks) options) }
     ensures value { value.new ≡ value_after value.old (answer_of (sensors_of first second third limit marks) options) }
 {
     let sensors = Sensors {
@@ -62,6 +65,9 @@ pub extern "C" fn sensors_combine(
             }
             0
         }
-        Err(refusal) => refusal as u32,
+        Err(refusal) => {
+            *flags = 0;
+            refusal as u32
+        }
     }
 }

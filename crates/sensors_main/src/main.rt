@@ -10,17 +10,19 @@ use std::io;
 use words::has;
 
 // The readings of sensors 1 to 3, the limit, the marks in bits 0 to 2, and the option word.
-const CASES: [(f32, f32, f32, f32, u32, u32); 53] = [
+const CASES: [(f32, f32, f32, f32, u32, u32); 63] = [
     // three trusted, and both differences pass: the middle one, by bit 5 the mean
     (10.0, 13.0, 12.0, 2.0, 0, 0),
     (10.0, 13.0, 12.0, 2.0, 0, 32),
     // of equal readings, as 0 and -0 are, the lower-numbered counts as smaller
     (0.0, -0.0, 5.0, 10.0, 0, 0),
     (-0.0, 0.0, 5.0, 10.0, 0, 0),
+    (0.0, 5.0, -0.0, 10.0, 0, 0),
     (5.0, 0.0, -0.0, 10.0, 0, 0),
     (-0.0, 0.0, -0.0, 0.0, 0, 0),
     (-0.0, -0.0, -0.0, 0.0, 0, 32),
     // each order
+    (1.0, 2.0, 3.0, 5.0, 0, 0),
     (3.0, 1.0, 2.0, 5.0, 0, 0),
     (2.0, 3.0, 1.0, 5.0, 0, 0),
     (3.0, 2.0, 1.0, 5.0, 0, 0),
@@ -34,7 +36,8 @@ const CASES: [(f32, f32, f32, f32, u32, u32); 53] = [
     (1e-45, 1e-45, 1e-45, 0.0, 0, 32),
     (1000000.0, 1000000.0, 1000000.0, 0.0, 0, 32),
     (1.0, -1000000.0, 1000000.0, 3.4028235e38, 0, 0),
-    // other bits have no effect
+    // bits 6, 7 and 8 are not asked, and other bits have no effect
+    (10.0, 13.0, 12.0, 2.0, 0, 448),
     (10.0, 13.0, 12.0, 2.0, 0, 4294966814),
     // one difference fails, of each sensor; bits 0, 5 and 7 are not asked
     (1.0, 11.0, 12.0, 2.0, 0, 161),
@@ -45,6 +48,7 @@ const CASES: [(f32, f32, f32, f32, u32, u32); 53] = [
     (1000000.0, 1000000.0, -1000000.0, 0.0, 0, 32),
     // both fail: with the flags of the outer two or, by bit 0, without; by bit 7 no value
     (1.0, 11.0, 30.0, 2.0, 0, 32),
+    (11.0, 1.0, 30.0, 2.0, 0, 0),
     (11.0, 1.0, 30.0, 2.0, 0, 1),
     (1.0, 30.0, 11.0, 2.0, 0, 128),
     (1.0, 11.0, 30.0, 2.0, 0, 129),
@@ -59,15 +63,21 @@ const CASES: [(f32, f32, f32, f32, u32, u32); 53] = [
     (0.0, -0.0, f32::NAN, 0.0, 0, 64),
     (0.0, -0.0, f32::NAN, 0.0, 0, 0),
     (0.0, -0.0, f32::NAN, 0.0, 0, 256),
+    (-0.0, -0.0, f32::NAN, 0.0, 0, 32),
     (1e-45, 0.0, f32::NAN, 1.0, 0, 32),
+    (-1e-45, 0.0, f32::NAN, 1.0, 0, 32),
+    (1e-45, 1e-45, f32::NAN, 0.0, 0, 32),
     // 1,000,000 is trusted either way, and the next number is not
     (1000000.0, -1000000.0, 1000000.0625, 1000000.0, 0, 32),
     // a difference of 65536.001953125 is rounded to 65536
     (65536.0, -0.001953125, f32::INFINITY, 65536.0, 0, 64),
+    (65536.0, -0.001953125, -0.001953125, 65536.0, 0, 0),
     // one trusted, by bit 7 no value; none
     (f32::NEG_INFINITY, 2.0, -1000000.0625, 1.0, 0, 0),
     (f32::NAN, f32::NAN, 3.0, 1.0, 0, 33),
-    (1.0, 2.0, 3.0, 1.0, 3, 128),
+    (1.0, 2.0, 3.0, 1.0, 3, 0),
+    (1.0, 2.0, 3.0, 1.0, 6, 0),
+    (1.0, 2.0, 3.0, 1.0, 6, 128),
     (1.0, f32::NAN, 3.0, 1.0, 5, 0),
     (1.0, 2.0, 3.0, 1.0, 7, 0),
     // a limit below 0 or not finite is refused, whatever else; -0 is not
@@ -79,7 +89,7 @@ const CASES: [(f32, f32, f32, f32, u32, u32); 53] = [
     (3.0, 3.0, 3.0, -0.0, 0, 0),
 ];
 
-// A value with its bits, which NaN has none of, and the flags Y1 to Y5.
+// A value with its bits (those of NaN are not fixed), and the flags Y1 to Y5.
 fn show_answer(rt: &impl Print, answer: Answer) -> io::Result<()>
     requires { IfSome (value_of answer.value) IsWithin }
 {
