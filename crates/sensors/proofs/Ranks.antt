@@ -88,47 +88,27 @@ abbrev pub decided : Bool → Bool → Bool → Sensor → Sensor → Sensor →
 unfolding when◌then◌else◌
 decided p q r a b c d e f = when p then (when r then a else when q then b else c) else when q then d else when r then e else f
 
-least_by : (p q r : Bool) → chained p q r → picked 0 p q r ≡ decided p q r First First Third Second Second Third
+decided_by : (p q r : Bool) → chained p q r
+    → (picked 0 p q r ≡ decided p q r First First Third Second Second Third)
+    × ((picked 1 p q r ≡ decided p q r Second Third First First Third Second) × (picked 2 p q r ≡ decided p q r Third Second Second Third First First))
 unfolding when◌then◌else◌
-least_by true true true h = refl
-least_by true true false h = refl
-least_by true false true h = absurd (h.0 tt tt)
-least_by true false false h = refl
-least_by false true true h = refl
-least_by false true false h = absurd (h.1 tt tt)
-least_by false false true h = refl
-least_by false false false h = refl
-
-middle_by : (p q r : Bool) → chained p q r → picked 1 p q r ≡ decided p q r Second Third First First Third Second
-unfolding when◌then◌else◌
-middle_by true true true h = refl
-middle_by true true false h = refl
-middle_by true false true h = absurd (h.0 tt tt)
-middle_by true false false h = refl
-middle_by false true true h = refl
-middle_by false true false h = absurd (h.1 tt tt)
-middle_by false false true h = refl
-middle_by false false false h = refl
-
-greatest_by : (p q r : Bool) → chained p q r → picked 2 p q r ≡ decided p q r Third Second Second Third First First
-unfolding when◌then◌else◌
-greatest_by true true true h = refl
-greatest_by true true false h = refl
-greatest_by true false true h = absurd (h.0 tt tt)
-greatest_by true false false h = refl
-greatest_by false true true h = refl
-greatest_by false true false h = absurd (h.1 tt tt)
-greatest_by false false true h = refl
-greatest_by false false false h = refl
+decided_by true true true h = (refl, (refl, refl))
+decided_by true true false h = (refl, (refl, refl))
+decided_by true false true h = absurd (h.0 tt tt)
+decided_by true false false h = (refl, (refl, refl))
+decided_by false true true h = (refl, (refl, refl))
+decided_by false true false h = absurd (h.1 tt tt)
+decided_by false false true h = (refl, (refl, refl))
+decided_by false false false h = (refl, (refl, refl))
 
 pub least_is : (s : Sensors) → AreTrusted s → least s ≡ decided (le s.first s.second) (le s.first s.third) (le s.second s.third) First First Third Second Second Third
 unfolding least
-least_is s h = picked_is s h 0 ∙ least_by (le s.first s.second) (le s.first s.third) (le s.second s.third) (chained_is s h)
+least_is s h = picked_is s h 0 ∙ (decided_by _ _ _ (chained_is s h)).0
 
 pub middle_is : (s : Sensors) → AreTrusted s → middle s ≡ decided (le s.first s.second) (le s.first s.third) (le s.second s.third) Second Third First First Third Second
 unfolding middle
-middle_is s h = picked_is s h 1 ∙ middle_by (le s.first s.second) (le s.first s.third) (le s.second s.third) (chained_is s h)
+middle_is s h = picked_is s h 1 ∙ (decided_by _ _ _ (chained_is s h)).1.0
 
 pub greatest_is : (s : Sensors) → AreTrusted s → greatest s ≡ decided (le s.first s.second) (le s.first s.third) (le s.second s.third) Third Second Second Third First First
 unfolding greatest
-greatest_is s h = picked_is s h 2 ∙ greatest_by (le s.first s.second) (le s.first s.third) (le s.second s.third) (chained_is s h)
+greatest_is s h = picked_is s h 2 ∙ (decided_by _ _ _ (chained_is s h)).1.1

@@ -63,7 +63,7 @@ AreRight ts = map (λ (t : Sheet). answer_of t.sensors t.options) ts ≡ map (λ
 unfoldable pub given_sheets : List Sheet
 given_sheets =
     -- three trusted. Both differences pass, one at the limit: the middle one, by bit 5 the mean; other bits have no effect. A difference
-    -- is rounded. Of equal readings the lower-numbered counts as smaller
+    -- is rounded. Equal readings go by the sensors' numbers
     sheet (three "10" "13" "12" "2") 0 (gives (bits 0x4140_0000) [])
     ∷ sheet (three "10" "13" "12" "2") 32 (gives (bits 0x413a_aaab) [])
     ∷ sheet (three "10" "13" "12" "2") 448 (gives (bits 0x4140_0000) [])

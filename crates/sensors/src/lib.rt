@@ -64,12 +64,12 @@ pub struct Answer {
 /// What a call is refused for, with its number: rule 11.3.
 #[derive(Clone, Copy, Debug, PartialEq, Eq)]
 pub enum Refusal {
-    /// The limit is below 0 or not finite.
+    /// The limit is below 0, infinite or NaN.
     Limit = 11,
 }
 
-/// The answer of three sensors, by bits 0, 5, 6, 7 and 8 of the option word; its other bits have no effect. Where the limit is below 0 or
-/// not finite the call is refused, whatever else it is handed: rule 11.
+/// The answer of three sensors, by bits 0, 5, 6, 7 and 8 of the option word, whose other bits have no effect. A limit below 0, infinite or
+/// NaN is refused, whatever else is handed in: rule 11.
 #[tactic(auto, using(crate::proofs::Within::answer_within, crate::proofs::Sheets::are_right), unfolding(words::specs::Opened::choices, crate::specs::Sensors::answer_of, crate::specs::Sensors::refusal_of))]
 pub fn combine(sensors: Sensors, options: u32) -> Result<Answer, Refusal>
     ensures answer { result ≡ answer_of sensors options }

@@ -46,7 +46,7 @@ impl Sensors {
         }
     }
 
-    // Of equal readings the lower-numbered counts as smaller. A test that is passed over (`_`) follows from the two others.
+    // Equal readings go by the sensors' numbers. A test that is passed over (`_`) follows from the two others.
     #[tactic(auto, using(crate::proofs::Ranks::least_is, crate::proofs::Ranks::middle_is, crate::proofs::Ranks::greatest_is), unfolding(words::specs::Opened::choices))]
     pub(crate) fn order(self) -> Order
         requires { AreTrusted self }

@@ -14,7 +14,7 @@ const CASES: [(f32, f32, f32, f32, u32, u32); 63] = [
     // three trusted, and both differences pass: the middle one, by bit 5 the mean
     (10.0, 13.0, 12.0, 2.0, 0, 0),
     (10.0, 13.0, 12.0, 2.0, 0, 32),
-    // of equal readings, as 0 and -0 are, the lower-numbered counts as smaller
+    // equal readings, as 0 and -0 are, go by the sensors' numbers
     (0.0, -0.0, 5.0, 10.0, 0, 0),
     (-0.0, 0.0, 5.0, 10.0, 0, 0),
     (0.0, 5.0, -0.0, 10.0, 0, 0),
@@ -80,7 +80,7 @@ const CASES: [(f32, f32, f32, f32, u32, u32); 63] = [
     (1.0, 2.0, 3.0, 1.0, 6, 128),
     (1.0, f32::NAN, 3.0, 1.0, 5, 0),
     (1.0, 2.0, 3.0, 1.0, 7, 0),
-    // a limit below 0 or not finite is refused, whatever else; -0 is not
+    // a limit below 0, infinite or NaN is refused, whatever else; -0 is not
     (f32::NAN, 2.0, 3.0, -1.0, 0, 0),
     (1.0, 2.0, 3.0, -1e-45, 0, 0),
     (1.0, 2.0, 3.0, f32::INFINITY, 0, 0),
