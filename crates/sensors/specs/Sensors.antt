@@ -77,7 +77,9 @@ refusal_of s = when limit_allowed s.limit then 0 else 11
 
 -- not marked, finite, and at most 1,000,000 in magnitude
 unfoldable pub is_trusted : Sensors → Sensor → Bool
-is_trusted s n = not (is_marked s n) && (float_is_finite (reading s n) && le (float_with_sign false (reading s n)) (float_of 1000000))
+is_trusted s n =
+    not (is_marked s n)
+    && (float_is_finite (reading s n) && le (float_with_sign false (reading s n)) (float_of 1000000))
 
 -- ---- 11.5 Means, in sensor order
 
@@ -101,7 +103,10 @@ is_smaller s i j = lt (reading s i) (reading s j) || (eq (reading s i) (reading 
 
 -- how many sensors count as smaller than n, and the sensor where these are k: 0, 1 or 2
 unfoldable pub rank : Sensors → Sensor → ℕ
-rank s n = (when is_smaller s First n then 1 else 0) + (when is_smaller s Second n then 1 else 0) + (when is_smaller s Third n then 1 else 0)
+rank s n =
+    (when is_smaller s First n then 1 else 0)
+    + (when is_smaller s Second n then 1 else 0)
+    + (when is_smaller s Third n then 1 else 0)
 
 unfoldable pub of_rank : Sensors → ℕ → Sensor
 of_rank s k = when eqb (rank s First) k then First else when eqb (rank s Second) k then Second else Third
@@ -119,6 +124,7 @@ greatest s = of_rank s 2
 unfoldable pub fails : Sensors → Sensor → Sensor → Bool
 fails s larger smaller = lt s.limit (sub binary32 (reading s larger) (reading s smaller))
 
+-- the difference of i and j fails, whichever of them counts as smaller
 unfoldable pub are_apart : Sensors → Sensor → Sensor → Bool
 are_apart s i j = when is_smaller s i j then fails s j i else fails s i j
 
@@ -159,7 +165,10 @@ of_three s options = by_differences (fails s (greatest s) (middle s)) (fails s (
 -- two trusted, i before j
 unfoldable pub of_two : Sensors → Sensor → Sensor → ℕ → Answer
 of_two s i j options = record {
-  value = Known (when is_set 5 options || is_set 8 options then mean_of_two s i j else when is_set 6 options then reading s i else reading s j);
+  value =
+      Known (when is_set 5 options || is_set 8 options then mean_of_two s i j
+      else when is_set 6 options then reading s i
+      else reading s j);
   flags = record no_flags { mismatch = are_apart s i j };
 }
 
