@@ -1,14 +1,12 @@
 -- How large a sum and a quotient in single precision can be. Rounding keeps order, so what a whole number that the format holds bounds
 -- before rounding it bounds after.
 use Rattle.std.proofs.Common.{◌≡◌, ℕ, ◌+◌, ◌-◌, ◌*◌, ◌^◌, ◌<◌, ◌≤◌, Bool, true, false, T, ◌&&◌, ◌||◌, cond, ltb, eqb, ap, refl, sym, ◌∙◌, subst, arith, zero, suc}
-use Rattle.std.proofs.lemmas.Bool.{cond_both, eqb-true, false≢true}
-use Rattle.std.proofs.Math.Nat.{le_trans, le_of_eq, mul-le-mul_right, mul_assoc, mul_comm, mul_right_comm, mul-one, le_of_mul-le-mul_right, le_of_lt, eq-or-lt_of_le, mul-pos}
+use Rattle.std.proofs.lemmas.Bool.{cond_both, eqb-true, ltb-true, lt-ltb, false≢true}
+use Rattle.std.proofs.Math.Nat.{le_trans, le_of_eq, mul-le-mul_right, mul_assoc, mul_comm, mul_right_comm, mul-one, le_of_mul-le-mul_right, mul-pos}
 use Rattle.std.specs.Prelude.{ℤ}
 use Rattle.std.specs.Float.{Float, Format, binary32, nan, inf, fin, float_with_sign}
 use Rattle.std.specs.Float.Ieee.{add, div, sum, round, units, odd, le, up, down, low, prec}
-use Rattle.std.proofs.Common.{inl, inr}
 use mathlib.Core.Bool.{beq}
-use lib.Dec.{ltb→lt, eqb→eq, lt→ltb, eqb_refl}
 use lib.Ieee.Exact.{HasValue}
 use lib.Ieee.Fits.{round_is, up_pos, down_pos}
 use lib.Ieee.Order.{round_mono}
@@ -39,28 +37,11 @@ round_size : (f : Format) (s : Bool) (n d : ℕ) → float_with_sign false (roun
 round_size f s n d = ap (float_with_sign false) (round_is f s n d) ∙ units_size f s _ _ ∙ sym (round_is f false n d)
 
 -- ---- at most a whole number that the format holds
-from_tests : (a b : ℕ) (x y : Bool) → (T x → a < b) → (T y → a ≡ b) → T (x || (y && true)) → a ≤ b
-from_tests a b true y p q t = le_of_lt (p tt)
-from_tests a b false true p q t = le_of_eq (q tt)
-from_tests a b false false p q t = absurd t
-
 from_test : (a b : ℕ) → T (ltb a b || (eqb a b && true)) → a ≤ b
-from_test a b t = from_tests a b (ltb a b) (eqb a b) (ltb→lt a b) (eqb→eq a b) t
-
-or_left_T : (x y : Bool) → T x → T (x || y)
-or_left_T true y t = tt
-or_left_T false y t = absurd t
-
-or_right_T : (x y : Bool) → T y → T (x || (y && true))
-or_right_T true y t = tt
-or_right_T false true t = tt
-or_right_T false false t = absurd t
+from_test a b t = grind (arith, ltb-true, eqb-true)
 
 pub to_test : (a b : ℕ) → a ≤ b → T (ltb a b || (eqb a b && true))
-to_test a b h = elim (eq-or-lt_of_le h) [
-  | inl e ↦ or_right_T (ltb a b) (eqb a b) (subst (λ (z : ℕ). T (eqb a z)) e (eqb_refl a))
-  | inr l ↦ or_left_T (ltb a b) (eqb a b && true) (lt→ltb a b l)
-]
+to_test a b h = grind (arith, ltb-true, lt-ltb, eqb-true)
 
 pub below_whole : (x y : Float) (n : ℕ) → T (le (float_with_sign false x) y) → HasValue y false n 1 → AtMost n x
 unfolding le float_with_sign

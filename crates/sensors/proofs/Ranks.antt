@@ -1,5 +1,5 @@
 -- The sensors in order, by three comparisons: of readings that are numbers each is at most another or above it, and the order is transitive.
-use Rattle.std.proofs.Common.{◌≡◌, ℕ, ◌+◌, Bool, true, false, not, T, ◌||◌, eqb, ap, ap₂, refl, ◌∙◌}
+use Rattle.std.proofs.Common.{◌≡◌, ℕ, ◌+◌, Bool, true, false, not, T, ◌||◌, eqb, ap, ap₂, refl, ◌∙◌, arith}
 use Rattle.std.proofs.Math.Bool.{and-true, and-false, or-false}
 use Rattle.std.proofs.lemmas.Float.{lt_irrefl, lt_of_not-le, lt_of_le_of_lt, lt_of_lt_of_le, le_trans, le_of_lt}
 use Rattle.std.specs.Float.{Float, NotNan}
@@ -12,10 +12,6 @@ use Rattle.sensors.specs.Sensors.{reading, number, comes_before, is_smaller, ran
 use Rattle.sensors.proofs.Trust.{number_is}
 
 -- ---- two readings
-
-no_from : (a : Bool) → (T a → ⊥) → a ≡ false
-no_from true h = absurd (h tt)
-no_from false h = refl
 
 turned : (a b : Bool) → (T a → T b → ⊥) → (T (not a) → T b) → b ≡ not a
 turned true true h k = absurd (h tt tt)
@@ -37,7 +33,7 @@ smaller_after s i j e =
     ∙ or-false (lt (reading s i) (reading s j)))
 
 smaller_self : (s : Sensors) (i : Sensor) → comes_before i i ≡ false → is_smaller s i i ≡ false
-smaller_self s i e = smaller_after s i i e ∙ no_from (lt (reading s i) (reading s i)) (lt_irrefl (reading s i))
+smaller_self s i e = smaller_after s i i e ∙ grind (arith, lt_irrefl)
 
 pub apart_is : (s : Sensors) (i j : Sensor) → comes_before i j ≡ true
     → are_apart s i j ≡ (when le (reading s i) (reading s j) then fails s j i else fails s i j)
