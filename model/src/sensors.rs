@@ -120,7 +120,7 @@ impl Flag {
 struct Options {
     /// Bit 0: no sensor is flagged where both differences fail.
     outer_unflagged: bool,
-    /// Bit 5: the mean, of three readings that agree or of two.
+    /// Bit 5: the mean, of three whose differences pass or of two.
     mean: bool,
     /// Bit 6: the lower-numbered of two.
     lower_of_two: bool,

@@ -77,7 +77,7 @@ given_sheets =
     ∷ sheet (three "0.0078125" "0.0078125" "131072" "1000000") 32 (gives (bits 0x472a_aaac) [])
     ∷ sheet (three "43.789787" "43.789787" "43.789787" "0") 32 (gives (bits 0x422f_28bd) [])
     ∷ sheet (three "-0" "-0" "-0" "0") 32 (gives (bits 0x8000_0000) [])
-    -- one fails, of each sensor; bits 0, 5 and 7 are not asked
+    -- one fails, of each sensor; bits 0, 5 and 7 do not count
     ∷ sheet (three "1" "11" "12" "2") 161 (gives (bits 0x4138_0000) (3 ∷ []))
     ∷ sheet (three "12" "1" "11" "2") 0 (gives (bits 0x4138_0000) (4 ∷ []))
     ∷ sheet (three "10" "11" "20" "2") 0 (gives (bits 0x4128_0000) (5 ∷ []))
@@ -86,7 +86,7 @@ given_sheets =
     ∷ sheet (three "11" "1" "30" "2") 0 (gives (bits 0x4130_0000) (2 ∷ 4 ∷ 5 ∷ []))
     ∷ sheet (three "11" "1" "30" "2") 1 (gives (bits 0x4130_0000) (2 ∷ []))
     ∷ sheet (three "1" "30" "11" "2") 128 (gives Absent (2 ∷ 3 ∷ 4 ∷ []))
-    -- two trusted: the higher-numbered, by bit 6 the lower-numbered, by bit 8 or bit 5 their mean; bits 0 and 7 are not asked
+    -- two trusted: the higher-numbered, by bit 6 the lower-numbered, by bit 8 or bit 5 their mean; bits 0 and 7 do not count
     ∷ sheet (record (three "1" "2" "4" "5") { first_marked = true }) 0 (gives (bits 0x4080_0000) [])
     ∷ sheet (record (three "1" "2" "4" "1") { second_marked = true }) 193 (gives (bits 0x3f80_0000) (2 ∷ []))
     ∷ sheet (three "2" "1" "NaN" "0.5") 256 (gives (bits 0x3fc0_0000) (2 ∷ []))

@@ -1,4 +1,4 @@
-// The sensor block: one value, or none, of three sensors on one bearing, in automatic mode, and what is wrong with them. Rule 11; its
+// The sensor block: one value, or none, for the readings of three sensors on one bearing, in automatic mode, and five flags. Rule 11; its
 // definitions are in specs/Sensors.antt.
 #![tactic(auto, unfolding(crate::specs::Opened::opened))]
 

@@ -36,10 +36,10 @@ const CASES: [(f32, f32, f32, f32, u32, u32); 63] = [
     (1e-45, 1e-45, 1e-45, 0.0, 0, 32),
     (1000000.0, 1000000.0, 1000000.0, 0.0, 0, 32),
     (1.0, -1000000.0, 1000000.0, 3.4028235e38, 0, 0),
-    // bits 6, 7 and 8 are not asked, and other bits have no effect
+    // bits 6, 7 and 8 do not count, and no other bit ever does
     (10.0, 13.0, 12.0, 2.0, 0, 448),
     (10.0, 13.0, 12.0, 2.0, 0, 4294966814),
-    // one difference fails, of each sensor; bits 0, 5 and 7 are not asked
+    // one difference fails, of each sensor; bits 0, 5 and 7 do not count
     (1.0, 11.0, 12.0, 2.0, 0, 161),
     (12.0, 1.0, 11.0, 2.0, 0, 0),
     (10.0, 11.0, 20.0, 2.0, 0, 0),
@@ -54,7 +54,7 @@ const CASES: [(f32, f32, f32, f32, u32, u32); 63] = [
     (1.0, 11.0, 30.0, 2.0, 0, 129),
     (1.0, 11.0, 30.0, 2.0, 0, 4294966814),
     (1e-45, 0.0, -1e-45, 0.0, 0, 0),
-    // two trusted: the second of them, by bit 6 the first, by bit 5 or 8 their mean; bits 0 and 7 are not asked
+    // two trusted: the second of them, by bit 6 the first, by bit 5 or 8 their mean; bits 0 and 7 do not count
     (1.0, 2.0, 4.0, 5.0, 1, 0),
     (1.0, 2.0, 4.0, 1.0, 2, 193),
     (2.0, 1.0, f32::NAN, 0.5, 0, 256),
