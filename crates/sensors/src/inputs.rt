@@ -30,12 +30,12 @@ impl Sensors {
         }
     }
 
-    #[tactic(auto, using(crate::proofs::Literals::million_is), unfolding(crate::specs::Sensors::is_trusted))]
+    #[tactic(auto, using(crate::proofs::Literals::million_is, crate::proofs::Trust::between_is), unfolding(crate::specs::Sensors::is_trusted))]
     pub(crate) fn is_trusted(self, n: Sensor) -> bool
         ensures { result ≡ is_trusted self n }
     {
         let x = self.reading(n);
-        !self.is_marked(n) & (x.is_finite() & (x.abs() <= MOST))
+        !self.is_marked(n) & ((-MOST <= x) & (x <= MOST))
     }
 
     #[tactic(auto, using(crate::proofs::Literals::zero_is), unfolding(crate::specs::Sensors::limit_allowed))]
