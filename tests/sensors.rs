@@ -106,7 +106,11 @@ impl Random {
             4 => self.below(5) as f32,
             _ => f32::from_bits((self.below(40) + 107) << 23 | self.next() >> 9),
         };
-        if self.below(2) == 0 { x } else { -x }
+        if self.below(2) == 0 {
+            x
+        } else {
+            -x
+        }
     }
 
     /// Some steps up or down in the order of the bits.
