@@ -104,7 +104,7 @@ while IFS='|' read -r readings limit marked options answer; do
   grep -qE -- "^$line$" crates/sensors_main/stdout || wrong "sensors_main does not print what given_sheets has: $line"
   sheets=$((sheets + 1))
 done < <(sed -nE 's/^.*sheet \((record \()?three "([^"]+)" "([^"]+)" "([^"]+)" "([^"]+)"\)( \{([^}]*)\}\))? ([0-9]+) /\2 \3 \4|\5|\7|\8|/p' crates/sensors/specs/Sheets.antt)
-[ "$sheets" -ge 24 ] && [ "$sheets" -eq "$(grep -cE '^ *(∷ )?sheet \(' crates/sensors/specs/Sheets.antt)" ] || wrong "only $sheets of given_sheets were read"
+[ "$sheets" -gt 0 ] && [ "$sheets" -eq "$(grep -cE '^ *(∷ )?sheet \(' crates/sensors/specs/Sheets.antt)" ] || wrong "only $sheets of given_sheets were read"
 # and the lines of docs/SENSORS.md
 lines=0
 while IFS= read -r line; do

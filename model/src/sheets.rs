@@ -386,7 +386,7 @@ pub fn longest_dump() -> DumpSheet {
     DumpSheet { name: "a long dump", file, dump }
 }
 
-/// The dump that the request gives, and others worked by hand.
+/// The dump of the rule book, and others worked by hand.
 pub fn dump_sheets() -> Vec<DumpSheet> {
     let table_32: String = (1..=32).map(|k| format!("M,{k},193,0,500,300\n")).collect();
     let a_minute = "S,10000\n".repeat(6);

@@ -15,31 +15,6 @@ fn dump(file: &[u8]) -> String {
     String::from_utf8(model).unwrap()
 }
 
-/// Byte for byte as the request has it.
-#[test]
-fn the_dump_of_the_request() {
-    let file = "M,1,193,0,500,300\nI,1,32\nS,100\nI,1,4128\nS,100\nI,1,16\nS,100\n";
-    assert_eq!(file, given_sheets()[0].file);
-    let expected = "\
-$timescale 1 ms $end
-$scope module bench $end
-$var wire 1 ! m1on $end
-$var wire 1 \" m1off $end
-$upscope $end
-$enddefinitions $end
-#0
-0!
-0\"
-#200
-1!
-#300
-0!
-";
-    assert_eq!(dump(file.as_bytes()), expected);
-    assert_eq!(dump_sheets()[0].dump, expected);
-    assert_eq!(dump_sheets()[0].file, file);
-}
-
 #[test]
 fn dumps_worked_by_hand() {
     for sheet in dump_sheets() {

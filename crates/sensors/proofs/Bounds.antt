@@ -12,29 +12,29 @@ use lib.Ieee.Fits.{round_is, up_pos, down_pos}
 use lib.Ieee.Order.{round_mono}
 use lib.Ieee.Back.{round_whole}
 
--- a finite x whose size is at most n
+-- a finite x of a magnitude of at most n
 abbrev pub AtMost : ℕ → Float → Type 0
 AtMost n nan = ⊥
 AtMost n (inf s) = ⊥
 AtMost n (fin s m e) = m * up e ≤ n * down e
 
--- ---- the size of a rounded fraction does not go by its sign
-odd_size : (d : ℕ) (s : Bool) (q k l : ℕ) → float_with_sign false (odd d s q k l) ≡ odd d false q k l
+-- ---- the magnitude of a rounded fraction does not go by its sign
+odd_magnitude : (d : ℕ) (s : Bool) (q k l : ℕ) → float_with_sign false (odd d s q k l) ≡ odd d false q k l
 unfolding odd float_with_sign
-odd_size d s zero k l = refl
-odd_size d s (suc q) k l = refl
+odd_magnitude d s zero k l = refl
+odd_magnitude d s (suc q) k l = refl
 
-cond_size : (b s : Bool) (x y : Float) → float_with_sign false x ≡ y → float_with_sign false (cond b x (inf s)) ≡ cond b y (inf false)
+cond_magnitude : (b s : Bool) (x y : Float) → float_with_sign false x ≡ y → float_with_sign false (cond b x (inf s)) ≡ cond b y (inf false)
 unfolding float_with_sign
-cond_size true s x y e = e
-cond_size false s x y e = refl
+cond_magnitude true s x y e = e
+cond_magnitude false s x y e = refl
 
-units_size : (f : Format) (s : Bool) (q k : ℕ) → float_with_sign false (units f s q k) ≡ units f false q k
+units_magnitude : (f : Format) (s : Bool) (q k : ℕ) → float_with_sign false (units f s q k) ≡ units f false q k
 unfolding units
-units_size f s q k = cond_size _ s _ _ (odd_size (suc (prec f)) s q k (low f))
+units_magnitude f s q k = cond_magnitude _ s _ _ (odd_magnitude (suc (prec f)) s q k (low f))
 
-round_size : (f : Format) (s : Bool) (n d : ℕ) → float_with_sign false (round f s n d) ≡ round f false n d
-round_size f s n d = ap (float_with_sign false) (round_is f s n d) ∙ units_size f s _ _ ∙ sym (round_is f false n d)
+round_magnitude : (f : Format) (s : Bool) (n d : ℕ) → float_with_sign false (round f s n d) ≡ round f false n d
+round_magnitude f s n d = ap (float_with_sign false) (round_is f s n d) ∙ units_magnitude f s _ _ ∙ sym (round_is f false n d)
 
 -- ---- at most a whole number that the format holds
 from_test : (a b : ℕ) → T (ltb a b || (eqb a b && true)) → a ≤ b
@@ -61,7 +61,7 @@ round_within s n d k D K h =
     let one : n * 1 ≤ k * d = le_trans (le_of_eq (mul-one n)) h in
     let t : T (le (round binary32 false n d) (round binary32 false k 1)) = round_mono binary32 n d k 1 D (omega arith) one in
     below_whole (round binary32 s n d) (round binary32 false k 1) k
-    (subst (λ (z : Float). T (le z (round binary32 false k 1))) (sym (round_size binary32 s n d)) t)
+    (subst (λ (z : Float). T (le z (round binary32 false k 1))) (sym (round_magnitude binary32 s n d)) t)
     (round_whole binary32 false k K)
 
 -- ---- sums and quotients

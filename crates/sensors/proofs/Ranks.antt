@@ -1,5 +1,5 @@
 -- The sensors in order, by three comparisons: of readings that are numbers each is at most another or above it, and the order is transitive.
-use Rattle.std.proofs.Common.{◌≡◌, ℕ, ◌+◌, Bool, true, false, not, T, ◌||◌, eqb, ap, ap₂, refl, ◌∙◌, arith}
+use Rattle.std.proofs.Common.{◌≡◌, ℕ, ◌+◌, Bool, true, false, not, T, ◌||◌, eqb, ap, refl, ◌∙◌, arith}
 use Rattle.std.proofs.Math.Bool.{and-true, and-false, or-false}
 use Rattle.std.proofs.lemmas.Float.{lt_irrefl, lt_of_not-le, lt_of_le_of_lt, lt_of_lt_of_le, le_trans, le_of_lt}
 use Rattle.std.specs.Float.{Float, NotNan}
@@ -8,7 +8,7 @@ use Rattle.words.specs.Word.{when◌then◌else◌}
 use Rattle.sensors.specs.declared.Sensors.{Sensors}
 use Rattle.sensors.specs.declared.Sensor.{Sensor}
 use Rattle.sensors.specs.declared.Sensor.TheVariants.{First, Second, Third}
-use Rattle.sensors.specs.Sensors.{reading, number, comes_before, is_smaller, rank, of_rank, least, middle, greatest, fails, are_apart, AreTrusted}
+use Rattle.sensors.specs.Sensors.{reading, number, comes_before, is_smaller, counted, rank, of_rank, least, middle, greatest, fails, are_apart, AreTrusted}
 use Rattle.sensors.proofs.Trust.{number_is}
 
 -- ---- two readings
@@ -42,27 +42,20 @@ apart_is s i j e = rw (smaller_before s i j e) refl
 
 -- ---- three readings, by whether 1 is at most 2, 1 at most 3, 2 at most 3
 
-abbrev one : Bool → ℕ
-unfolding when◌then◌else◌
-one b = when b then 1 else 0
-
 abbrev picked : ℕ → Bool → Bool → Bool → Sensor
 unfolding when◌then◌else◌
-picked k p q r = when eqb (one false + one (not p) + one (not q)) k then First else when eqb (one p + one false + one (not r)) k then Second else Third
+picked k p q r = when eqb (counted false + counted (not p) + counted (not q)) k then First else when eqb (counted p + counted false + counted (not r)) k then Second else Third
 
-rank_first : (s : Sensors) → AreTrusted s → rank s First ≡ one false + one (not (le s.first s.second)) + one (not (le s.first s.third))
-unfolding rank reading comes_before number when◌then◌else◌
+rank_first : (s : Sensors) → AreTrusted s → rank s First ≡ counted false + counted (not (le s.first s.second)) + counted (not (le s.first s.third))
+unfolding rank reading comes_before number
 rank_first s h =
     let a = number_is s First h.first in
-    ap₂ (λ (x y : ℕ). x + y) (ap₂ (λ (x y : ℕ). x + y) (ap one (smaller_self s First refl))
-    (ap one (smaller_after s Second First refl ∙ above_is s.first s.second a (number_is s Second h.second))))
-    (ap one (smaller_after s Third First refl ∙ above_is s.first s.third a (number_is s Third h.third)))
+    rw (smaller_self s First refl, smaller_after s Second First refl ∙ above_is s.first s.second a (number_is s Second h.second), smaller_after s Third First refl ∙ above_is s.first s.third a (number_is s Third h.third)) refl
 
-rank_second : (s : Sensors) → AreTrusted s → rank s Second ≡ one (le s.first s.second) + one false + one (not (le s.second s.third))
-unfolding rank reading comes_before number when◌then◌else◌
+rank_second : (s : Sensors) → AreTrusted s → rank s Second ≡ counted (le s.first s.second) + counted false + counted (not (le s.second s.third))
+unfolding rank reading comes_before number
 rank_second s h =
-    ap₂ (λ (x y : ℕ). x + y) (ap₂ (λ (x y : ℕ). x + y) (ap one (smaller_before s First Second refl)) (ap one (smaller_self s Second refl)))
-    (ap one (smaller_after s Third Second refl ∙ above_is s.second s.third (number_is s Second h.second) (number_is s Third h.third)))
+    rw (smaller_before s First Second refl, smaller_self s Second refl, smaller_after s Third Second refl ∙ above_is s.second s.third (number_is s Second h.second) (number_is s Third h.third)) refl
 
 picked_is : (s : Sensors) → AreTrusted s → (k : ℕ) → of_rank s k ≡ picked k (le s.first s.second) (le s.first s.third) (le s.second s.third)
 unfolding of_rank when◌then◌else◌
@@ -87,7 +80,7 @@ decided p q r a b c d e f = when p then (when r then a else when q then b else c
 decided_by : (p q r : Bool) → chained p q r
     → (picked 0 p q r ≡ decided p q r First First Third Second Second Third)
     × ((picked 1 p q r ≡ decided p q r Second Third First First Third Second) × (picked 2 p q r ≡ decided p q r Third Second Second Third First First))
-unfolding when◌then◌else◌
+unfolding when◌then◌else◌ counted
 decided_by true true true h = (refl, (refl, refl))
 decided_by true true false h = (refl, (refl, refl))
 decided_by true false true h = absurd (h.0 tt tt)

@@ -12,8 +12,8 @@ use Rattle.sensors.specs.declared.Sensor.TheVariants.{First, Second, Third}
 use Rattle.sensors.specs.declared.Value.{Value}
 use Rattle.sensors.specs.declared.Value.TheVariants.{Known, Absent}
 use Rattle.sensors.specs.declared.Answer.{Answer}
-use Rattle.sensors.specs.Sensors.{reading, float_of, is_trusted, value_of, IsWithin, middle, least, greatest, fails, mean_of_two, mean_of_three, mean_without, unless_withheld, both_pass, one_fails, both_fail, by_differences, of_three, of_two, of_one, of_none, by_trust, trusted_answer}
-use Rattle.sensors.proofs.Trust.{finite_and_small}
+use Rattle.sensors.specs.Sensors.{reading, float_of, is_trusted, value_of, IsWithin, middle, least, greatest, mean_of_two, mean_of_three, mean_without, unless_withheld, both_pass, one_fails, both_fail, by_differences, of_three, of_two, of_one, of_none, by_trust, trusted_answer}
+use Rattle.sensors.proofs.Trust.{finite_and_within}
 use Rattle.sensors.proofs.Bounds.{AtMost, below_whole, add_within, div_within, to_test}
 
 abbrev most : ℕ
@@ -28,7 +28,7 @@ within_if (fin s m e) h = (tt, to_test (m * up e * 1) (1000000 * down e) (le_tra
 
 trusted_within : (s : Sensors) (n : Sensor) → is_trusted s n ≡ true → AtMost most (reading s n)
 unfolding float_of of_int
-trusted_within s n h = below_whole (reading s n) (float_of 1000000) most (T_from_true _ (finite_and_small s n h).1) (refl, refl)
+trusted_within s n h = below_whole (reading s n) (float_of 1000000) most (T_from_true _ (finite_and_within s n h).1) (refl, refl)
 
 when_both : {A : Type 0} (P : A → Type 0) (b : Bool) (x y : A) → P x → P y → P (when b then x else y)
 unfolding when◌then◌else◌
@@ -80,27 +80,19 @@ all_within s p q r First = p
 all_within s p q r Second = q
 all_within s p q r Third = r
 
-three_kept : (s : Sensors) (options : ℕ) → AtMost most s.first → AtMost most s.second → AtMost most s.third → Kept (of_three s options)
-unfolding of_three
-three_kept s options p q r = differences_kept s options (fails s (greatest s) (middle s)) (fails s (middle s) (least s)) (all_within s p q r)
-
 two_kept : (s : Sensors) (i j : Sensor) (options : ℕ) → AtMost most (reading s i) → AtMost most (reading s j) → Kept (of_two s i j options)
 unfolding of_two
 two_kept s i j options p q = when_both (AtMost most) _ _ _ (two_within s i j p q) (when_both (AtMost most) _ _ _ p q)
 
-one_kept : (s : Sensors) (n : Sensor) (options : ℕ) → AtMost most (reading s n) → Kept (of_one s n options)
-unfolding of_one
-one_kept s n options p = withheld_kept (reading s n) options p
-
 trust_kept : (s : Sensors) (options : ℕ) (x y z : Bool) → (x ≡ true → AtMost most (reading s First)) → (y ≡ true → AtMost most (reading s Second)) → (z ≡ true → AtMost most (reading s Third)) → Kept (by_trust x y z s options)
-unfolding by_trust of_none reading
-trust_kept s options true true true p q r = three_kept s options (p refl) (q refl) (r refl)
+unfolding by_trust of_three of_one of_none reading
+trust_kept s options true true true p q r = differences_kept s options _ _ (all_within s (p refl) (q refl) (r refl))
 trust_kept s options false true true p q r = two_kept s Second Third options (q refl) (r refl)
 trust_kept s options true false true p q r = two_kept s First Third options (p refl) (r refl)
 trust_kept s options true true false p q r = two_kept s First Second options (p refl) (q refl)
-trust_kept s options true false false p q r = one_kept s First options (p refl)
-trust_kept s options false true false p q r = one_kept s Second options (q refl)
-trust_kept s options false false true p q r = one_kept s Third options (r refl)
+trust_kept s options true false false p q r = withheld_kept (reading s First) options (p refl)
+trust_kept s options false true false p q r = withheld_kept (reading s Second) options (q refl)
+trust_kept s options false false true p q r = withheld_kept (reading s Third) options (r refl)
 trust_kept s options false false false p q r = tt
 
 value_within : (v : Value) → IfSome (value_of v) (AtMost most) → IfSome (value_of v) IsWithin

@@ -101,12 +101,13 @@ mean_without s Third = mean_of_two s First Second
 unfoldable pub is_smaller : Sensors → Sensor → Sensor → Bool
 is_smaller s i j = lt (reading s i) (reading s j) || (eq (reading s i) (reading s j) && comes_before i j)
 
+-- 1 if a test holds, otherwise 0
+unfoldable pub counted : Bool → ℕ
+counted test = when test then 1 else 0
+
 -- how many sensors count as smaller than n, and the sensor where these are k: 0, 1 or 2
 unfoldable pub rank : Sensors → Sensor → ℕ
-rank s n =
-    (when is_smaller s First n then 1 else 0)
-    + (when is_smaller s Second n then 1 else 0)
-    + (when is_smaller s Third n then 1 else 0)
+rank s n = counted (is_smaller s First n) + counted (is_smaller s Second n) + counted (is_smaller s Third n)
 
 unfoldable pub of_rank : Sensors → ℕ → Sensor
 of_rank s k = when eqb (rank s First) k then First else when eqb (rank s Second) k then Second else Third

@@ -1,11 +1,11 @@
 -- Sensors and answers as numbers, for programs in other languages.
-use Rattle.std.specs.Prelude.{ℕ, ◌+◌, Bool, Result, Ok, Err, is_some, unwrap_or}
+use Rattle.std.specs.Prelude.{ℕ, ◌+◌, ◌*◌, Result, Ok, Err, is_some, unwrap_or}
 use Rattle.std.specs.Float.{Float}
 use Rattle.words.specs.Word.{when◌then◌else◌, is_set}
 use Rattle.sensors.specs.declared.Sensors.{Sensors}
 use Rattle.sensors.specs.declared.Answer.{Answer}
 use Rattle.sensors.specs.declared.Refusal.{Refusal}
-use Rattle.sensors.specs.Sensors.{value_of}
+use Rattle.sensors.specs.Sensors.{counted, value_of}
 
 -- four numbers, and marks by the bits 0 to 2
 unfoldable pub sensors_of : Float → Float → Float → Float → ℕ → Sensors
@@ -19,16 +19,12 @@ sensors_of first second third limit marks = record {
   third_marked = is_set 2 marks;
 }
 
--- n, if the test holds
-unfoldable pub weight : Bool → ℕ → ℕ
-weight test n = when test then n else 0
-
 -- Y1 to Y5 in bits 0 to 4, and in bit 5 whether there is a value
 unfoldable pub number_of_flags : Answer → ℕ
 number_of_flags a =
-    weight a.flags.error 1 + weight a.flags.mismatch 2
-    + (weight a.flags.first 4 + weight a.flags.second 8 + weight a.flags.third 16)
-    + weight (is_some (value_of a.value)) 32
+    counted a.flags.error + 2 * counted a.flags.mismatch
+    + 4 * counted a.flags.first + 8 * counted a.flags.second + 16 * counted a.flags.third
+    + 32 * counted (is_some (value_of a.value))
 
 -- what is left in the place of the flags: none where the call is refused
 unfoldable pub flags_after : Result Answer Refusal → ℕ
@@ -41,5 +37,5 @@ value_after old (Ok a) = unwrap_or (value_of a.value) old
 value_after old (Err r) = old
 
 unfoldable pub opened : Type 0
-unfolding when◌then◌else◌ weight number_of_flags flags_after value_after sensors_of
+unfolding when◌then◌else◌ counted number_of_flags flags_after value_after sensors_of
 opened = Unit {0}

@@ -2,29 +2,29 @@
 #![tactic(auto, unfolding(crate::specs::Numbers::opened))]
 
 ghost use Rattle.std.specs.Prelude.{◌≡◌, ◌≤◌};
-ghost use Rattle.sensors.specs.Sensors.{answer_of, refusal_of};
-ghost use Rattle.sensors_c.specs.Numbers.{sensors_of, weight, number_of_flags, flags_after, value_after};
+ghost use Rattle.sensors.specs.Sensors.{answer_of, counted, refusal_of};
+ghost use Rattle.sensors_c.specs.Numbers.{sensors_of, number_of_flags, flags_after, value_after};
 
 use sensors::{Answer, Sensors, Value};
 use words::has;
 
-fn weight(test: bool, n: u32) -> u32
-    ensures weight { result ≡ weight test n }
-    ensures most { result ≤ n }
+fn counted(test: bool) -> u32
+    ensures count { result ≡ counted test }
+    ensures most { result ≤ 1 }
 {
-    if test { n } else { 0 }
+    if test { 1 } else { 0 }
 }
 
 fn number_of_flags(answer: Answer) -> u32
     ensures { result ≡ number_of_flags answer }
 {
     let flags = answer.flags;
-    let own = weight(flags.first, 4) + weight(flags.second, 8) + weight(flags.third, 16);
+    let own = 4 * counted(flags.first) + 8 * counted(flags.second) + 16 * counted(flags.third);
     let known = match answer.value {
         Value::Known(_) => 32,
         Value::Absent => 0,
     };
-    weight(flags.error, 1) + weight(flags.mismatch, 2) + own + known
+    counted(flags.error) + 2 * counted(flags.mismatch) + own + known
 }
 
 /// The answer of three sensors: rule 11. Bits 0 to 2 of `marks` mark the readings of sensors 1 to 3, and its other bits have no effect. 0
