@@ -12,6 +12,8 @@ use crate::rules::{
 pub struct Chain {
     /// Number of the scan that issued its first command.
     pub first: usize,
+    /// How many commands it has so far.
+    pub commands: usize,
     /// Number of the scan in which its last command ended, and how.
     pub ended: Option<(usize, End)>,
 }
@@ -91,8 +93,9 @@ impl Book {
         let taken = acknowledge(&mut self.face, &settings, &change);
         let issued = choose(&self.face, &settings, &change, taken, &mut Trace::default());
         if let Some(command) = issued {
-            if self.face.command.is_none() {
-                self.chains.push(Chain { first: this, ended: None });
+            match self.chains.last_mut().filter(|_| self.face.command.is_some()) {
+                Some(chain) => chain.commands += 1,
+                None => self.chains.push(Chain { first: this, commands: 1, ended: None }),
             }
             enter(&mut self.face, &settings, command);
             self.issued_in = this;

@@ -386,6 +386,15 @@ pub enum Cause {
     Confirmed,
 }
 
+/// A sum that step 3 added the period to.
+#[derive(Clone, Copy, Debug)]
+pub struct Sum {
+    pub before: u32,
+    pub after: u32,
+    /// W or U.
+    pub limit: u32,
+}
+
 /// What happened in one scan of one motor; for counting only.
 #[derive(Clone, Copy, Debug, Default)]
 pub struct Trace {
@@ -399,6 +408,10 @@ pub struct Trace {
     pub acknowledged_on: bool,
     /// Nothing before step 2.
     pub reading: Option<Reading>,
+    /// OPS_2 of a motor whose switches are both read.
+    pub both_read: Option<u32>,
+    /// The last sure position before this scan.
+    pub last_sure: Option<Way>,
     pub pretended: bool,
     pub unsanctioned: bool,
     pub raised_pulse: bool,
@@ -416,6 +429,10 @@ pub struct Trace {
     pub switch_fault: bool,
     /// A command is under way as step 5 forms the flags.
     pub under_way: bool,
+    /// Of the command under way as the scan began.
+    pub time_sum: Option<Sum>,
+    /// Of the pulse that was running then.
+    pub pulse_sum: Option<Sum>,
 }
 
 /// Step 1.
@@ -704,6 +721,13 @@ impl Face {
     }
 }
 
+/// Step 3 for one sum.
+fn add(sum: &mut u32, period: u32, limit: u32) -> Sum {
+    let before = *sum;
+    *sum += period;
+    Sum { before, after: *sum, limit }
+}
+
 /// The ten steps, for a record, word and period in range.
 fn ten_steps(record: &mut Record, word: u32, period: u32) -> Trace {
     let settings = Settings::spell(record.ops_1, record.ops_2, record.wait, record.pulse);
@@ -711,7 +735,13 @@ fn ten_steps(record: &mut Record, word: u32, period: u32) -> Trace {
     let mut face = Face::of(record);
     let mut drive =
         Drive { sum: record.sum, output: output_named(record.output), pulse_sum: record.pulse_sum };
-    let mut trace = Trace { local: change.now.local, reset: change.now.reset, ..Trace::default() };
+    let mut trace = Trace {
+        local: change.now.local,
+        reset: change.now.reset,
+        both_read: settings.two_switches.then_some(record.ops_2),
+        last_sure: face.last_sure,
+        ..Trace::default()
+    };
 
     // 1
     begin(&mut face, &change.now);
@@ -726,10 +756,10 @@ fn ten_steps(record: &mut Record, word: u32, period: u32) -> Trace {
 
     // 3
     if face.command.is_some() {
-        drive.sum += period;
+        trace.time_sum = Some(add(&mut drive.sum, period, settings.wait));
     }
     if drive.running_pulse(&settings) {
-        drive.pulse_sum += period;
+        trace.pulse_sum = Some(add(&mut drive.pulse_sum, period, settings.pulse));
     }
 
     // 4

@@ -2,9 +2,9 @@
 
 use crate::book::{Book, Entry};
 use crate::dump::Outputs;
-use crate::file::{word, Bench, Done};
+use crate::file::{word, Bench, Done, FILE_LIMIT};
 use crate::record::SETTING_LIMITS;
-use crate::rules::{Cause, Command, End, Mode, Reading, Trace, Way};
+use crate::rules::{Cause, Command, End, Mode, Reading, Sum, Trace, Way};
 use crate::totals::Totals;
 use std::fmt;
 
@@ -17,6 +17,9 @@ pub struct Tally {
     pub cut_short: u64,
     /// Near the greatest length; of these only refusals are counted.
     pub long: u64,
+    /// One byte below the greatest length, of just that, and one above: all of them,
+    /// those without refusal, and of these the ones with commands.
+    pub lengths: [[u64; 3]; 3],
     pub bytes: u64,
     pub scans: u64,
     pub motor_scans: u64,
@@ -24,11 +27,18 @@ pub struct Tally {
     pub confirmed: [u64; 7],
     pub displaced: [u64; 7],
     pub overdue: [u64; 7],
+    /// In files without refusal, by the number of commands: those whose last command
+    /// was confirmed, and overdue.
+    pub chains: [[u64; 7]; 2],
+    /// Of commands under way, and of running pulses.
+    pub sums: [AtLimit; 2],
     pub modes: [u64; 3],
     pub work_by_command: u64,
     pub acknowledged: [u64; 2],
     pub both_open: Unsure,
     pub both_closed: Unsure,
+    /// Of motors whose switches are both read, by OPS_2 and in the order of [`READINGS`].
+    pub readings: [[u64; READINGS.len()]; 32],
     pub pretended: u64,
     pub unsanctioned: u64,
     pub pulses: u64,
@@ -136,6 +146,45 @@ pub const DUMPS: [DumpKind; 15] = [
     ("32 motors, later time", |o| o.fresh.len() == 32 && later_time(o)),
     ("change of motor 32", |o| o.steps().any(|(_, before, after)| before.get(31) != after.get(31))),
 ];
+
+type ReadingKind = (&'static str, fn(Reading, Option<Way>) -> bool);
+
+/// Readings with the last sure position before them.
+pub const READINGS: [ReadingKind; 7] = [
+    ("both open at first", |r, last| r == Reading::BothOpen && last.is_none()),
+    ("both open after Off", |r, last| r == Reading::BothOpen && last == Some(Way::Off)),
+    ("both open after On", |r, last| r == Reading::BothOpen && last == Some(Way::On)),
+    ("both closed at first", |r, last| r == Reading::BothClosed && last.is_none()),
+    ("both closed after Off", |r, last| r == Reading::BothClosed && last == Some(Way::Off)),
+    ("both closed after On", |r, last| r == Reading::BothClosed && last == Some(Way::On)),
+    ("sure", |r, _| r.sure().is_some()),
+];
+
+/// The place of a number in a list for one below its limit, the limit and one above.
+fn beside<T>(list: &mut [T; 3], number: usize, limit: usize) -> Option<&mut T> {
+    list.get_mut((number + 1).checked_sub(limit)?)
+}
+
+/// Sums that came to their limit or to one beside it.
+#[derive(Clone, Copy, Debug, Default)]
+pub struct AtLimit {
+    /// In one scan, by its period alone.
+    pub at_once: [u64; 3],
+    /// In several scans.
+    pub later: [u64; 3],
+}
+
+impl AtLimit {
+    fn count(&mut self, sum: &Sum) {
+        let list = if sum.before == 0 { &mut self.at_once } else { &mut self.later };
+        beside(list, sum.after as usize, sum.limit as usize).into_iter().for_each(|count| *count += 1);
+    }
+
+    fn add(&mut self, other: &AtLimit) {
+        each(&mut self.at_once, &other.at_once);
+        each(&mut self.later, &other.later);
+    }
+}
 
 /// Hexadecimal fields, and those that look like some.
 #[derive(Clone, Copy, Debug, Default)]
@@ -310,6 +359,14 @@ impl Tally {
             Some(Reading::BothClosed) => self.both_closed.count(trace),
             Some(Reading::Off | Reading::On) | None => {}
         }
+        if let (Some(ops_2), Some(reading)) = (trace.both_read, trace.reading) {
+            for (count, (_, shows)) in self.readings[ops_2 as usize].iter_mut().zip(READINGS) {
+                *count += u64::from(shows(reading, trace.last_sure));
+            }
+        }
+        for (sums, sum) in self.sums.iter_mut().zip([&trace.time_sum, &trace.pulse_sum]) {
+            sum.iter().for_each(|sum| sums.count(sum));
+        }
         self.acknowledged[0] += u64::from(trace.acknowledged_off);
         self.acknowledged[1] += u64::from(trace.acknowledged_on);
         self.barred += u64::from(trace.barred);
@@ -356,8 +413,16 @@ impl Tally {
         self.cut_short += u64::from(books.is_none() && print.starts_with(b"R"));
         self.long += u64::from(long);
         self.bytes += bytes as u64;
+        if let Some(counts) = beside(&mut self.lengths, bytes, FILE_LIMIT) {
+            let commands = books.unwrap_or_default().iter().any(|book| !book.chains.is_empty());
+            each(counts, &[1, u64::from(books.is_some()), u64::from(commands)]);
+        }
         let books = books.filter(|_| !long).unwrap_or_default();
         for book in books {
+            for chain in &book.chains {
+                let Some((_, end)) = chain.ended else { continue };
+                self.chains[usize::from(end == End::Overdue)][chain.commands - 1] += 1;
+            }
             let told = Told { book, totals: Totals::of(book), motors: books.len() };
             for (count, (_, shows)) in self.told.iter_mut().zip(KINDS) {
                 *count += u64::from(shows(&told));
@@ -377,6 +442,10 @@ impl Tally {
         each(&mut self.confirmed, &other.confirmed);
         each(&mut self.displaced, &other.displaced);
         each(&mut self.overdue, &other.overdue);
+        each(self.chains.as_flattened_mut(), other.chains.as_flattened());
+        self.sums.iter_mut().zip(&other.sums).for_each(|(a, b)| a.add(b));
+        each(self.readings.as_flattened_mut(), other.readings.as_flattened());
+        each(self.lengths.as_flattened_mut(), other.lengths.as_flattened());
         each(&mut self.modes, &other.modes);
         each(&mut self.acknowledged, &other.acknowledged);
         each(&mut self.dropped, &other.dropped);
@@ -425,6 +494,11 @@ fn rows<const N: usize>(
     Ok(())
 }
 
+/// What each list has at least at every place.
+fn least<const N: usize>(lists: &[[u64; N]]) -> [u64; N] {
+    std::array::from_fn(|place| lists.iter().map(|list| list[place]).min().unwrap_or(0))
+}
+
 impl fmt::Display for Tally {
     fn fmt(&self, f: &mut fmt::Formatter) -> fmt::Result {
         let row = |f: &mut fmt::Formatter, title: &str, counts: &[u64; 7]| {
@@ -446,6 +520,15 @@ impl fmt::Display for Tally {
         row(f, "ended confirmed", &self.confirmed)?;
         row(f, "ended displaced", &self.displaced)?;
         row(f, "ended overdue", &self.overdue)?;
+        row(f, "chains confirmed", &self.chains[0])?;
+        row(f, "chains overdue", &self.chains[1])?;
+        for ((title, limit), sums) in [("time sums", "W"), ("pulse sums", "U")].iter().zip(&self.sums) {
+            write!(f, "  {title:<22}")?;
+            for (how, [below, at, above]) in [("in one scan", sums.at_once), ("in several", sums.later)] {
+                write!(f, " {how} {limit} - 1:{below} {limit}:{at} {limit} + 1:{above}")?;
+            }
+            writeln!(f)?;
+        }
         writeln!(f, "  ended and issued in one scan {}", self.end_and_issue)?;
         writeln!(
             f,
@@ -472,6 +555,7 @@ impl fmt::Display for Tally {
                  under way:{outside} in local mode:{local}"
             )?;
         }
+        rows(f, "each OPS_2, at least", &least(&self.readings), READINGS.map(|(title, _)| title))?;
         writeln!(
             f,
             "  outputs                pulses:{} held:{} dropped by time:{} by overdue:{} by confirming:{}",
@@ -493,6 +577,11 @@ impl fmt::Display for Tally {
         write!(f, "  refusals              ")?;
         for refusal in [1, 2, 3, 4, 5, 7, 8, 9, 10] {
             write!(f, " {refusal}:{}", self.refused[refusal])?;
+        }
+        writeln!(f)?;
+        write!(f, "  lengths               ")?;
+        for ([all, whole, commands], bytes) in self.lengths.iter().zip(FILE_LIMIT - 1..) {
+            write!(f, " {bytes}:{all} without refusal:{whole} with commands:{commands}")?;
         }
         writeln!(f)?;
         let Hexadecimal { read, above, wrong, elsewhere } = &self.hexadecimal;
