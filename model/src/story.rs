@@ -4,7 +4,8 @@
 //! fail to or move by themselves, and periods often land on the very end of a
 //! monitoring or pulse time or one beside it. Its words are decimal, hexadecimal
 //! or some of each. A damaged file is a whole one with something done to it, or a
-//! line made to be refused.
+//! line made to be refused. Some kinds of files are made for what these seldom come
+//! to, such as long chains.
 
 use crate::file::{number, word, Bench, FILE_LIMIT};
 use crate::record::{Record, SETTING_LIMITS};
@@ -111,17 +112,22 @@ fn settings(dice: &mut Dice) -> [u32; 4] {
     [ops_1, ops_2, wait, pulse]
 }
 
-/// A command bit worth raising in this state.
-fn command_bit(dice: &mut Dice, record: &Record, word: u32) -> u32 {
-    let stronger_other_way = match record.command {
-        7 => &[bit::KO_OFF, bit::MU_OFF, bit::LZ_OFF, bit::SMA][..],
+/// The bits of the commands that displace this one, weakest first.
+fn stronger_other_way(command: u32) -> &'static [u32] {
+    match command {
+        7 => &[bit::KO_OFF, bit::MU_OFF, bit::LZ_OFF, bit::SMA],
         6 => &[bit::MU_ON, bit::LZ_ON, bit::SMA],
         5 => &[bit::MU_OFF, bit::LZ_OFF, bit::SMA],
         4 => &[bit::LZ_ON, bit::SMA],
         3 => &[bit::LZ_OFF, bit::SMA],
         2 => &[bit::SMA],
         _ => &[],
-    };
+    }
+}
+
+/// A command bit worth raising in this state.
+fn command_bit(dice: &mut Dice, record: &Record, word: u32) -> u32 {
+    let stronger_other_way = stronger_other_way(record.command);
     if !stronger_other_way.is_empty() && dice.percent(60) {
         return dice.pick(stronger_other_way);
     }
@@ -316,8 +322,8 @@ impl Writer {
         self.line(format!("I,{},{word}", place + 1));
     }
 
-    /// New words for some motors, then a scan.
-    fn round(&mut self, dice: &mut Dice, busy: u64, usual: u32) {
+    /// New words for some motors.
+    fn words(&mut self, dice: &mut Dice, busy: u64) {
         for place in 0..self.bench.motors.len() {
             let old = self.bench.words[place];
             let word = next_word(dice, &self.bench.motors[place].clone(), old, busy);
@@ -330,8 +336,17 @@ impl Writer {
                 self.word(dice, place, word);
             }
         }
-        let period = next_period(dice, &self.bench, usual);
+    }
+
+    fn scan(&mut self, period: u32) {
         self.line(format!("S,{period}"));
+    }
+
+    /// New words for some motors, then a scan.
+    fn round(&mut self, dice: &mut Dice, busy: u64, usual: u32) {
+        self.words(dice, busy);
+        let period = next_period(dice, &self.bench, usual);
+        self.scan(period);
     }
 }
 
@@ -760,7 +775,7 @@ fn at_the_limit(dice: &mut Dice, count: u64) -> Vec<u8> {
     }
     match dice.below(4) {
         // Played to the end.
-        0 => {
+        0 | 2 => {
             // A round takes two I lines a motor at most, of 16 bytes, and an S line.
             while writer.file.len() + 32 * motors as usize + 20 < length.min(FILE_LIMIT) {
                 writer.round(dice, 60, 100);
@@ -814,15 +829,111 @@ fn long_times(dice: &mut Dice) -> Vec<u8> {
         ]);
         writer.word(dice, place, word);
     }
-    writer.line("S,1".to_string());
+    writer.scan(1);
     for _ in 0..75 {
         let m = dice.pick(&writer.bench.motors);
         let left = if dice.percent(50) { m.wait - m.sum } else { m.pulse.saturating_sub(m.pulse_sum) };
         let period = if left > 10_000 { 10_000 } else { dice.pick(&[left, left, left.saturating_sub(1), 1]) };
-        writer.line(format!("S,{}", period.clamp(1, 10_000)));
+        writer.scan(period.clamp(1, 10_000));
         if dice.percent(3) {
             writer.round(dice, 85, 10_000);
         }
+    }
+    writer.file
+}
+
+/// Monitoring and pulse times of one period, or a millisecond less or more.
+fn short_times(dice: &mut Dice) -> Vec<u8> {
+    let mut writer = Writer::new(dice);
+    let period = dice.pick(&[1, 2, 3, 50, 100, 1000, 9_999, 10_000]);
+    for _ in 0..dice.within(1, 3) {
+        let [ops_1, ops_2, _, _] = settings(dice);
+        let [wait, pulse] = [(); 2].map(|_| dice.within(period - 1, period + 1));
+        writer.motor(dice, [ops_1 | 64, ops_2, wait, pulse]);
+    }
+    for _ in 0..dice.within(40, 90) {
+        writer.words(dice, 85);
+        writer.scan(period);
+    }
+    writer.file
+}
+
+/// Switches that do not confirm the command under way.
+fn no_answer(dice: &mut Dice, record: &Record) -> u32 {
+    let opposite = if switches_on(record.command) { bit::OFF } else { bit::ON };
+    if record.ops_1 & 1 == 0 {
+        opposite
+    } else {
+        dice.pick(&[opposite, 0, bit::SWITCHES])
+    }
+}
+
+/// A word that begins a chain or, mostly, takes it on: the command under way is not
+/// confirmed, and the weakest of those that displace it rises.
+fn chain_word(dice: &mut Dice, record: &Record) -> u32 {
+    let no_answer = no_answer(dice, record);
+    let (switches, command) = match stronger_other_way(record.command) {
+        [] if record.command == 0 => {
+            let on = (bit::OFF, bit::KO_ON);
+            dice.pick(&[on, on, (bit::ON, bit::KO_OFF), (bit::OFF, bit::MU_ON)])
+        }
+        [weakest, ..] if dice.percent(85) => (no_answer, *weakest),
+        [.., strongest] if dice.percent(20) => (no_answer, *strongest),
+        _ => (dice.pick(&[no_answer, bit::OFF, bit::ON]), 0),
+    };
+    let local = match command {
+        bit::MU_ON | bit::MU_OFF => bit::LOCAL,
+        bit::KO_ON | bit::KO_OFF => 0,
+        _ => dice.pick(&[0, bit::LOCAL]),
+    };
+    // A bit that is 1 already has to be let go of before it can rise.
+    switches | local | command & !record.previous | dice.pick(&[0, 0, 0, bit::RESET])
+}
+
+/// A period in which no chain that may go on gets overdue, if there is one.
+fn chain_period(dice: &mut Dice, bench: &Bench) -> u32 {
+    let left = bench.motors.iter().filter(|m| m.command > 1).map(|m| m.wait - m.sum - 1);
+    let most = left.min().unwrap_or(10_000).clamp(1, 10_000);
+    let any = dice.within(1, most);
+    dice.pick(&[most, any, any, 1])
+}
+
+/// Commands that displace one another, up to all seven.
+fn chains(dice: &mut Dice) -> Vec<u8> {
+    let mut writer = Writer::new(dice);
+    for _ in 0..dice.within(1, 3) {
+        let [ops_1, ops_2, _, pulse] = settings(dice);
+        let wait = dice.pick(&[2, 3, 20, 100, 500, 3000, 10_001, 600_000]);
+        writer.motor(dice, [ops_1, ops_2, wait, pulse]);
+    }
+    for _ in 0..dice.within(20, 60) {
+        for place in 0..writer.bench.motors.len() {
+            let word = chain_word(dice, &writer.bench.motors[place].clone());
+            writer.word(dice, place, word);
+        }
+        let period = chain_period(dice, &writer.bench);
+        writer.scan(period);
+    }
+    writer.file
+}
+
+/// A motor for each OPS_2, with both switches read and unsure every other time.
+fn unsure(dice: &mut Dice) -> Vec<u8> {
+    let mut writer = Writer::new(dice);
+    let first = dice.within(0, 31);
+    for place in 0..32 {
+        let [ops_1, _, wait, pulse] = settings(dice);
+        writer.motor(dice, [ops_1 | 1, (first + place) % 32, wait, pulse]);
+    }
+    for _ in 0..dice.within(8, 16) {
+        for place in 0..32 {
+            let old = writer.bench.words[place];
+            let word = next_word(dice, &writer.bench.motors[place].clone(), old, 60);
+            let switches = dice.pick(&[0, bit::OFF, bit::ON, bit::SWITCHES]);
+            writer.word(dice, place, word & !bit::SWITCHES | switches);
+        }
+        let period = next_period(dice, &writer.bench, 100);
+        writer.scan(period);
     }
     writer.file
 }
@@ -874,11 +985,13 @@ pub fn file(seed: u64, index: u64) -> Vec<u8> {
     if is_long(index) {
         return at_the_limit(&mut dice, index / 100);
     }
-    if index % 50 == 3 {
-        return long_times(&mut dice);
-    }
-    if index % 50 == 28 {
-        return mixed(&mut dice);
+    match index % 50 {
+        3 => return long_times(&mut dice),
+        8 => return chains(&mut dice),
+        23 => return short_times(&mut dice),
+        28 => return mixed(&mut dice),
+        38 => return unsure(&mut dice),
+        _ => {}
     }
     if dice.percent(60) {
         let most = if dice.percent(2) { 0 } else { dice.pick(&[12, 40, 40, 120]) };

@@ -7,11 +7,11 @@ use motor_model::file::{lines, run, run_watched, Bench, Done};
 use motor_model::record::Record;
 use motor_model::rules::scan_one;
 use motor_model::story::{self, Dice};
-use motor_model::tally::{Tally, DUMPS, KINDS, NUMBERS, WAYS, WORDS};
+use motor_model::tally::{Tally, DUMPS, KINDS, NUMBERS, READINGS, WAYS, WORDS};
 use motor_model::{fast, shrink};
 
-/// After every scan each record has what its book has, and the bound on every
-/// chain holds.
+/// After every scan each record has what its book has, no chain has more than seven
+/// commands, and the bound on every chain holds.
 #[test]
 fn records_and_books() {
     for index in 0..1500 {
@@ -31,6 +31,7 @@ fn records_and_books() {
                     for ((book, record), word) in books.iter_mut().zip(&bench.motors).zip(&bench.words) {
                         book.scan(*word, period);
                         assert!(book.agrees_with(record), "file {index}");
+                        assert!(book.chains.iter().all(|chain| chain.commands <= 7), "file {index}");
                         assert!(book.bound_holds(), "file {index}");
                         assert!(record.in_range());
                         tidy(record);
@@ -173,6 +174,23 @@ fn the_files_are_rich() {
         assert!(unsure.idle > 10_000, "{unsure:?}");
         assert!(unsure.idle_local.iter().chain(&unsure.under_way).all(|count| *count > 500), "{unsure:?}");
     }
+    // Chains of every length, ended either way.
+    assert!(tally.chains.as_flattened().iter().all(|count| *count > 20), "{:?}", tally.chains);
+    // Sums at their limit and beside it, after one scan and after several.
+    for (sums, least) in tally.sums.iter().zip([1200, 550]) {
+        assert!(sums.at_once.iter().all(|count| *count > least), "{sums:?}");
+        assert!(sums.later.iter().all(|count| *count > 150), "{sums:?}");
+    }
+    // Every way to read both switches, with each OPS_2.
+    for (ops_2, counts) in tally.readings.iter().enumerate() {
+        for (count, (title, _)) in counts.iter().zip(READINGS) {
+            assert!(*count > 130, "OPS_2 {ops_2}, {title}: {count}");
+        }
+    }
+    // Files of the greatest length, some accepted with commands in them, and beside it.
+    let [below, at, above] = tally.lengths;
+    assert!(below[0] > 4 && at[0] > 15 && above[0] > 15, "{:?}", tally.lengths);
+    assert!(below[1] > 4 && at[1] > 10 && at[2] > 5, "{:?}", tally.lengths);
     // Totals of every kind, and files that had some but print none.
     for (count, (title, _)) in tally.told.iter().zip(KINDS) {
         assert!(*count > 100, "{title}: {count}");
