@@ -6,6 +6,8 @@ ghost use Rattle.std.specs.Prelude.{◌≡◌};
 ghost use Rattle.std.specs.Result.{result_unwrap_or};
 ghost use Rattle.rules.specs.Record.{fresh};
 ghost use Rattle.rules.specs.Numbers.{code_of};
+ghost use Rattle.rules.specs.Sheets.{AreRight, given_sheets};
+ghost use Rattle.rules.specs.OwnSheets.{own_sheets};
 ghost use Rattle.rules.specs.Refusals.{settings_in_range, status_in_range, output_in_range, in_range, period_ok, word_ok, one_refusal, one_after};
 
 use rules::{Motor, Output, Refusal, Settings, Status};
@@ -111,11 +113,13 @@ pub fn accept(m: Motor, word: u32, period: u32) -> Result<(), Refusal>
     }
 }
 
-// One scan: the record after the ten steps, or a refusal.
-#[tactic(auto, using(rules::proofs::Tables::one_accepted, rules::proofs::Tables::one_refused, rules::proofs::Range::one_in_limits, rules::proofs::Range::steppable))]
+// One scan: the record after the ten steps, or a refusal. The rules that it keeps are those of the sheets.
+#[tactic(auto, using(rules::proofs::Tables::one_accepted, rules::proofs::Tables::one_refused, rules::proofs::Range::one_in_limits, rules::proofs::Range::steppable, rules::proofs::Sheets::given_right, rules::proofs::Sheets::own_right))]
 pub fn scan(m: Motor, word: u32, period: u32) -> Result<Motor, Refusal>
     ensures code { code_of result ≡ one_refusal m word period }
     ensures motor { result_unwrap_or result m ≡ one_after m word period }
+    ensures given_sheets { AreRight given_sheets }
+    ensures own_sheets { AreRight own_sheets }
 {
     accept(m, word, period)?;
     Ok(steps::step(m, word, period))

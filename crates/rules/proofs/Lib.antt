@@ -4,3 +4,4 @@ pub mod Tables
 pub mod Quiet
 pub mod Resting
 pub mod Numbers
+pub mod Sheets

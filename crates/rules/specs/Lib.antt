@@ -5,4 +5,6 @@ pub mod Scans
 pub mod Resting
 pub mod Opened
 pub mod Sheets
+pub mod OwnSheets
+pub mod Refused
 pub mod Numbers
