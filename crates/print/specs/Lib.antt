@@ -4,3 +4,4 @@ pub mod Advance
 pub mod Runs
 pub mod Course
 pub mod Opened
+pub mod Sheets
