@@ -1,5 +1,6 @@
 pub mod Record
 pub mod Periods
+pub mod IdleSums
 pub mod Book
 pub mod Ends
 pub mod Chain

@@ -13,6 +13,7 @@ use Rattle.book.specs.Book.{since, book_of}
 use Rattle.book.specs.Claim.{MotorClaim}
 use Rattle.book.proofs.Record.{record_is, taken_is, refused_is, independent_is}
 use Rattle.book.proofs.Book.{book_held}
+use Rattle.book.proofs.IdleSums.{idle_sums_are}
 use Rattle.book.proofs.Ends.{stays_is, ends_is}
 use Rattle.book.proofs.Chain.{chain_is, over_is}
 
@@ -35,6 +36,7 @@ claimed s es =
       record_is = record_is s es;
       book_is = ap (λ (m : Motor). m.status) (record_is s es) ∙ (book_held s (history s es)).status_is;
       time_is = time_is s es;
+      idle_sums = idle_sums_are s es;
       closed_flag = closed_flag_is s es;
       taken = taken_is s es;
       refused = refused_is s es;

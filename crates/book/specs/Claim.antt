@@ -1,13 +1,20 @@
--- What is claimed of a motor that starts fresh and that nothing but the scans of a list writes: rules 5.5 to 6.5.
+-- What is claimed of a motor that starts fresh and that nothing but the scans of a list writes: rules 2.6 and 5.5 to 6.5.
 use Rattle.std.specs.Prelude.{ℕ, suc, ◌+◌, ◌*◌, ◌≤◌, max, ◌≡◌, ◌↔◌, ◌≢◌, ◌⊎◌, true, false, ◌&&◌}
 use Rattle.words.specs.Word.{when◌then◌else◌, is_set}
 use Rattle.rules.specs.declared.Settings.{Settings}
+use Rattle.rules.specs.declared.Motor.{Motor}
 use Rattle.rules.specs.Record.{no_command, no_end, end_confirmed, end_displaced, end_overdue, flag, overdue_flag, idle}
-use Rattle.rules.specs.Steps.{reading, confirms, both_closed, chosen, displaces, step}
+use Rattle.rules.specs.Steps.{reading, running, confirms, both_closed, chosen, displaces, step}
 use Rattle.rules.specs.Scans.{Input}
 use Rattle.book.specs.Log.{Log, none, ◌▸◌, ◌⧺◌, count}
 use Rattle.book.specs.History.{Entry, input_of, counts, record_after, history, record_of}
 use Rattle.book.specs.Book.{since, is_up, book1to6, book_of}
+
+-- Rule 2.6, of a record: the time sum is 0 while no command is under way, and the pulse sum while no pulse runs, also that of a held output
+-- and that of none.
+pub record IdleSums (m : Motor) : Type 0 where
+  pub time : idle m.status ≡ true → m.sum ≡ 0
+  pub pulse : running m.settings m.output ≡ false → m.output.sum ≡ 0
 
 -- After h the command c, issued in scan i, is under way: so the book has it.
 pub record UnderWay (s : Settings) (c i : ℕ) (h : Log Input) : Type 0 where
@@ -92,6 +99,8 @@ pub record MotorClaim (s : Settings) (es : Log Entry) : Type 0 where
   -- its time sum is what the periods since the issue come to, while a command is under way
   pub time_is : idle (record_after s es).status ≡ false
       → (record_after s es).sum ≡ since (book_of s (history s es)).issue (history s es)
+  -- rule 2.6: a sum that is idle is 0
+  pub idle_sums : IdleSums (record_after s es)
   -- rule 5.7: flag 14 stands beside flag 1 where the last scan read both switches closed, and nowhere else
   pub closed_flag : (h : Log Input) (x : Input) → history s es ≡ (h ▸ x)
       → flag (record_after s es).status 14 ≡ (flag (record_after s es).status 1 && both_closed (reading s x.word))

@@ -1,4 +1,4 @@
-// Where motors start, and what is claimed of them from there on: rules 5 and 6.
+// Where motors start, and what is claimed of them from there on: rules 2.6, 5 and 6.
 #![tactic(auto)]
 
 ghost use Rattle.std.specs.Prelude.{◌≡◌};
