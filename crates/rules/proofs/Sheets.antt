@@ -14,5 +14,5 @@ unfolding opened value_of inputs_of sheet wiring wired line all_accepted is_mark
 own_right = refl
 
 pub cases_given : AreGiven cases
-unfolding opened value_of wiring wired one table part asked answer most_status most with_output cases
+unfolding opened value_of wiring wired lent one table part asked answer most_status most with_output cases
 cases_given = refl

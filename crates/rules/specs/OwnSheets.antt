@@ -57,6 +57,7 @@ switch_sheets =
     -- the position that OPS_2 says, also where another was sure before
     ∷ sheet (wiring 193 28 500 300) (32 ∷ 48 ∷ []) (position ≔ 2 ∷ sure ≔ 1 ∷ [])
     ∷ sheet (wiring 193 12 500 300) (16 ∷ 48 ∷ []) (position ≔ 1 ∷ sure ≔ 2 ∷ [])
+    ∷ sheet (wiring 193 28 500 300) (32 ∷ 48 ∷ 48 ∷ []) (position ≔ 2 ∷ sure ≔ 1 ∷ [])
     ∷ sheet (wiring 193 12 500 300) (48 ∷ []) (position ≔ 1 ∷ [])
     -- OPS_2 bits 3 and 4 count with bit 2 only; an unsure reading leaves the last sure position, and sets neither flag 2 nor flag 3
     ∷ sheet (wiring 193 24 500 300) (48 ∷ []) (position ≔ 0 ∷ [])
@@ -64,6 +65,11 @@ switch_sheets =
     ∷ sheet wired (32 ∷ 48 ∷ 16 ∷ []) (flags ≔ 4 ∷ [])
     ∷ sheet wired (16 ∷ 48 ∷ []) (position ≔ 0 ∷ sure ≔ 2 ∷ flags ≔ 16386 ∷ [])
     ∷ sheet wired (32 ∷ 0 ∷ []) (position ≔ 0 ∷ sure ≔ 1 ∷ flags ≔ 2 ∷ [])
+    -- flags 2 and 3 go by the last sure position, and not by a pretended one
+    ∷ sheet (wiring 193 28 500 300) (32 ∷ 48 ∷ 16 ∷ []) (flags ≔ 4 ∷ [])
+    ∷ sheet (wiring 193 12 500 300) (16 ∷ 48 ∷ 32 ∷ []) (flags ≔ 8 ∷ [])
+    ∷ sheet (wiring 193 28 500 300) (16 ∷ 48 ∷ 16 ∷ []) (flags ≔ 0 ∷ [])
+    ∷ sheet (wiring 193 12 500 300) (16 ∷ 48 ∷ 16 ∷ []) (flags ≔ 0 ∷ [])
     -- flags 2 and 3 stay 0 where a command was under way as the scan began, also one that goes the other way
     ∷ sheet wired (16 ∷ 8208 ∷ 32 ∷ []) (line 2 1 0 1 0 0)
     ∷ sheet wired (32 ∷ 8240 ∷ 16 ∷ []) (command ≔ 6 ∷ sure ≔ 2 ∷ flags ≔ 0 ∷ [])
@@ -121,6 +127,7 @@ end_sheets =
     ∷ sheet wired (32 ∷ 4128 ∷ 32 ∷ 32 ∷ 32 ∷ []) (output ≔ 0 ∷ pulse ≔ 0 ∷ [])
     ∷ sheet (wiring 193 0 100 300) (32 ∷ 4128 ∷ 32 ∷ []) (line 2 1 0 3 0 8192)
     ∷ sheet (wiring 65 0 500 300) (32 ∷ 4128 ∷ 16 ∷ []) (line 2 2 0 1 1 0)
+    ∷ sheet (wiring 65 0 100 300) (32 ∷ 4128 ∷ 16 ∷ []) (line 2 2 0 1 1 0)
     ∷ []
 
 -- Rule 3.5
@@ -202,6 +209,7 @@ mode_sheets =
     ∷ sheet (wiring 193 12 500 300) (48 ∷ 1072 ∷ []) (mode ≔ 2 ∷ [])
     ∷ sheet (wiring 16577 12 500 300) (48 ∷ 1072 ∷ []) (mode ≔ 2 ∷ [])
     ∷ sheet (wiring 8385 12 500 300) (48 ∷ 1072 ∷ []) (mode ≔ 1 ∷ [])
+    ∷ sheet (wiring 193 12 500 300) (0 ∷ 1024 ∷ []) (mode ≔ 2 ∷ flags ≔ 2 ∷ [])
     ∷ sheet wired (32 ∷ 16 ∷ 32 ∷ 1056 ∷ []) (mode ≔ 1 ∷ flags ≔ 12 ∷ [])
     ∷ sheet wired (32 ∷ 544 ∷ 48 ∷ 2096 ∷ []) (mode ≔ 2 ∷ [])
     ∷ []
@@ -318,11 +326,13 @@ issue_sheets =
     ∷ sheet (wiring 133 0 500 300) (16 ∷ 26 ∷ []) (output ≔ 0 ∷ [])
     ∷ sheet wired (32 ∷ 38 ∷ []) (command ≔ 5 ∷ output ≔ 0 ∷ [])
     ∷ sheet (wiring 197 0 500 300) (32 ∷ 38 ∷ []) (command ≔ 5 ∷ output ≔ 1 ∷ [])
+    ∷ sheet (wiring 193 2 500 300) (32 ∷ 38 ∷ []) (command ≔ 5 ∷ output ≔ 0 ∷ [])
     ∷ sheet (wiring 65 0 500 300) (16 ∷ 272 ∷ []) (output ≔ 2 ∷ [])
     -- the opposite output drops, with its pulse sum, though the own one is not raised; the own one then stays as it is
     ∷ sheet (wiring 129 0 500 300) (32 ∷ 4128 ∷ 16 ∷ 272 ∷ []) (line 2 2 2 0 0 32)
     ∷ sheet (wiring 65 0 500 300) (32 ∷ 4128 ∷ 16 ∷ 17 ∷ []) (line 2 2 1 0 0 64)
     ∷ sheet wired (32 ∷ 4128 ∷ 32 ∷ 33 ∷ []) (command ≔ 1 ∷ sum ≔ 0 ∷ output ≔ 0 ∷ pulse ≔ 0 ∷ [])
+    ∷ sheet wired (32 ∷ 4128 ∷ 42 ∷ []) (command ≔ 4 ∷ output ≔ 0 ∷ [])
     ∷ sheet (wiring 65 0 500 300) (16 ∷ 272 ∷ 32 ∷ 38 ∷ []) (command ≔ 5 ∷ output ≔ 0 ∷ [])
     ∷ sheet (wiring 129 0 500 300) (32 ∷ 4128 ∷ 16 ∷ 34 ∷ 38 ∷ []) (command ≔ 5 ∷ output ≔ 1 ∷ [])
     -- a pulse raised again starts anew, and so does the time of a command that displaces
@@ -378,6 +388,7 @@ lent_sheets =
     ∷ from (record (lent 0 0 1 9 0) { settings = wiring 129 0 500 300 }) (32 ∷ []) (output ≔ 1 ∷ pulse ≔ 9 ∷ [])
     ∷ from (record (lent 0 0 1 9 0) { settings = wiring 193 0 500 0 }) (32 ∷ []) (output ≔ 1 ∷ pulse ≔ 9 ∷ [])
     ∷ from (lent 0 7 0 9 0) (4128 ∷ []) (command ≔ 7 ∷ sum ≔ 0 ∷ output ≔ 1 ∷ pulse ≔ 0 ∷ [])
+    ∷ from (lent 0 600 0 400 0) (32 ∷ []) (end ≔ 0 ∷ sum ≔ 600 ∷ pulse ≔ 400 ∷ flags ≔ 0 ∷ [])
     -- a command that raises nothing leaves an idle pulse sum, and its own output as it is; the opposite one drops, held too
     ∷ from (lent 0 7 0 9 0) (38 ∷ []) (command ≔ 5 ∷ sum ≔ 0 ∷ output ≔ 0 ∷ pulse ≔ 9 ∷ [])
     ∷ from (lent 0 0 1 100 0) (38 ∷ []) (command ≔ 5 ∷ output ≔ 1 ∷ pulse ≔ 200 ∷ [])
@@ -403,8 +414,12 @@ lent_sheets =
     -- rule 3.7: KO off acknowledges flags 5 and 6 and leaves 4, KO on the other way round
     ∷ from (record (flagged 0 112) { settings = wiring 32961 0 500 300 }) (8224 ∷ []) (flags ≔ 16 ∷ [])
     ∷ from (record (flagged 0 112) { settings = wiring 193 1 500 300 }) (4128 ∷ []) (flags ≔ 96 ∷ [])
+    ∷ from (record (flagged 0 112) { settings = wiring 32961 1 500 300 }) (12320 ∷ []) (command ≔ 0 ∷ flags ≔ 0 ∷ [])
     -- rule 3.1: the end of another scan goes
     ∷ from (record (fresh wired) { status = record fresh_status { end = 3 } }) (32 ∷ []) (end ≔ 0 ∷ [])
+    -- rule 3.2: the last sure position is pretended, and not the position before
+    ∷ from (record (fresh (wiring 193 4 500 300)) { status = record fresh_status { sure = 1; position = 2 } }) (48 ∷ [])
+    (position ≔ 1 ∷ sure ≔ 1 ∷ [])
     ∷ []
 
 unfoldable pub own_sheets : List Sheet

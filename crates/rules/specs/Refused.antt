@@ -5,7 +5,8 @@ use Rattle.rules.specs.declared.Motor.{Motor}
 use Rattle.rules.specs.declared.Status.{Status}
 use Rattle.rules.specs.Record.{fresh}
 use Rattle.rules.specs.Refusals.{one_refusal, one_after, table_refusal, table_after, part_refusal, part_after}
-use Rattle.rules.specs.Sheets.{previous, value_of, wiring, wired}
+use Rattle.rules.specs.Sheets.{sum, previous, value_of, wiring, wired}
+use Rattle.rules.specs.OwnSheets.{lent}
 
 -- what comes of a scan: its number, and then the previous words
 unfoldable pub one : Motor → ℕ → ℕ → List ℕ
@@ -70,9 +71,12 @@ cases =
     -- tables: none, 32 and 33 motors; each motor by its own word
     ∷ table [] [] 100 gives (0 ∷ [])
     ∷ table [] [] 10001 gives (2 ∷ [])
+    ∷ table (fresh wired ∷ []) (0 ∷ []) 1 gives (0 ∷ 0 ∷ [])
+    ∷ table (fresh wired ∷ []) (131071 ∷ []) 10000 gives (0 ∷ 131071 ∷ [])
     ∷ table (replicate 32 (fresh wired)) (replicate 32 32) 100 gives (0 ∷ replicate 32 32)
     ∷ table (replicate 33 (fresh wired)) (replicate 33 32) 100 gives (1 ∷ replicate 33 0)
     ∷ table (fresh wired ∷ most ∷ []) (32 ∷ 16 ∷ []) 100 gives (0 ∷ 32 ∷ 16 ∷ [])
+    ∷ map (value_of sum) (table_after (lent 7 50 0 0 0 ∷ lent 6 7 0 0 0 ∷ []) (32 ∷ 48 ∷ []) 100) gives (150 ∷ 107 ∷ [])
     -- as many words as records; 1 before 6 before 2 before 3, of whichever motor
     ∷ table (fresh wired ∷ fresh wired ∷ []) (32 ∷ []) 100 gives (1 ∷ 0 ∷ 0 ∷ [])
     ∷ table (fresh (wiring 65536 0 0 0) ∷ []) (131072 ∷ 131072 ∷ []) 0 gives (1 ∷ 0 ∷ [])
@@ -86,4 +90,6 @@ cases =
     ∷ part (replicate 33 (fresh wired)) 32 (replicate 33 32) 100 gives (0 ∷ (replicate 32 32 ++ (0 ∷ [])))
     ∷ part (fresh wired ∷ fresh (wiring 65536 0 0 0) ∷ []) 1 (32 ∷ 131072 ∷ []) 100 gives (0 ∷ 32 ∷ 0 ∷ [])
     ∷ part (fresh wired ∷ fresh wired ∷ []) 2 (32 ∷ 131072 ∷ []) 100 gives (3 ∷ 0 ∷ 0 ∷ [])
+    ∷ part (fresh wired ∷ []) 1 (32 ∷ []) 0 gives (2 ∷ 0 ∷ [])
+    ∷ map (value_of sum) (part_after (lent 7 50 0 0 0 ∷ lent 7 7 0 0 0 ∷ []) 1 (32 ∷ 32 ∷ []) 100) gives (150 ∷ 7 ∷ [])
     ∷ []
