@@ -236,12 +236,14 @@ acknowledging_sheets =
     ∷ sheet (wiring 193 1 0 300) (32 ∷ 160 ∷ 32 ∷ 4130 ∷ []) (command ≔ 0 ∷ flags ≔ 528 ∷ [])
     -- in Repair too, and while a command is under way
     ∷ sheet (wiring 32961 0 500 300) (16 ∷ 272 ∷ 32 ∷ 544 ∷ 8224 ∷ []) (mode ≔ 0 ∷ flags ≔ 0 ∷ [])
+    ∷ sheet (wiring 193 1 0 300) (32 ∷ 160 ∷ 32 ∷ 544 ∷ 4128 ∷ []) (mode ≔ 0 ∷ flags ≔ 512 ∷ [])
     ∷ sheet (wiring 32961 0 500 300) (16 ∷ 272 ∷ 8208 ∷ []) (command ≔ 2 ∷ flags ≔ 0 ∷ [])
     ∷ sheet (wiring 193 1 500 300) (32 ∷ 160 ∷ 4128 ∷ []) (command ≔ 3 ∷ flags ≔ 0 ∷ [])
     -- only that rise is no command: another goes in the same scan
     ∷ sheet (wiring 193 1 0 300) (32 ∷ 160 ∷ 32 ∷ 4256 ∷ []) (command ≔ 3 ∷ [])
     ∷ sheet (wiring 32961 0 0 300) (16 ∷ 272 ∷ 16 ∷ 8464 ∷ []) (command ≔ 2 ∷ [])
     ∷ sheet (wiring 32961 0 0 300) (16 ∷ 272 ∷ 16 ∷ 32 ∷ 12320 ∷ []) (command ≔ 7 ∷ flags ≔ 264 ∷ [])
+    ∷ sheet (wiring 193 1 500 300) (32 ∷ 160 ∷ 16 ∷ 12304 ∷ []) (command ≔ 6 ∷ flags ≔ 0 ∷ [])
     ∷ []
 
 -- Rule 3.8
@@ -291,6 +293,11 @@ choice_sheets =
     ∷ sheet (wiring 195 2 500 300) (98 ∷ 102 ∷ []) (command ≔ 0 ∷ [])
     ∷ sheet (wiring 195 0 500 300) (98 ∷ 102 ∷ []) (command ≔ 5 ∷ [])
     ∷ sheet wired (96 ∷ 224 ∷ []) (command ≔ 3 ∷ [])
+    -- what is barred does not displace either
+    ∷ sheet (wiring 195 0 500 300) (16 ∷ 8208 ∷ 208 ∷ []) (command ≔ 6 ∷ end ≔ 0 ∷ flags ≔ 1 ∷ [])
+    ∷ sheet (wiring 225 0 500 300) (16 ∷ 8208 ∷ 16528 ∷ []) (command ≔ 6 ∷ end ≔ 0 ∷ [])
+    ∷ sheet (wiring 209 0 500 300) (32 ∷ 4128 ∷ 33056 ∷ []) (command ≔ 7 ∷ end ≔ 0 ∷ [])
+    ∷ sheet wired (34 ∷ 38 ∷ 8226 ∷ []) (command ≔ 5 ∷ end ≔ 0 ∷ [])
     -- where none is under way, not at its own position: not the last sure one, and a pretended one counts
     ∷ sheet wired (16 ∷ 4112 ∷ []) (command ≔ 0 ∷ [])
     ∷ sheet wired (32 ∷ 8224 ∷ []) (command ≔ 0 ∷ [])
@@ -348,6 +355,8 @@ issue_sheets =
     ∷ sheet wired (32 ∷ 160 ∷ 16 ∷ 272 ∷ []) (flags ≔ 32 ∷ [])
     ∷ sheet (wiring 193 0 0 300) (16 ∷ 272 ∷ 16 ∷ 32 ∷ 16 ∷ 8208 ∷ []) (flags ≔ 300 ∷ [])
     ∷ sheet (wiring 193 0 0 300) (16 ∷ 17 ∷ 16 ∷ 272 ∷ []) (flags ≔ 224 ∷ [])
+    ∷ sheet wired (16 ∷ 272 ∷ 32 ∷ 38 ∷ []) (command ≔ 5 ∷ flags ≔ 0 ∷ [])
+    ∷ sheet wired (32 ∷ 160 ∷ 16 ∷ 26 ∷ []) (command ≔ 4 ∷ flags ≔ 0 ∷ [])
     -- each of OPS_1 bits 8 to 11 turns Reserve to Work at its own command and no other
     ∷ sheet (wiring 449 0 500 300) (32 ∷ 1056 ∷ 32 ∷ 160 ∷ []) (mode ≔ 2 ∷ [])
     ∷ sheet (wiring 3777 0 500 300) (32 ∷ 1056 ∷ 32 ∷ 160 ∷ []) (mode ≔ 1 ∷ [])
