@@ -7,6 +7,7 @@ ghost use Rattle.rules.specs.Numbers.{number_of};
 
 // OPS_1, OPS_2, the monitoring time W and the pulse time U, in milliseconds.
 #[derive(Clone, Copy, Debug, Default, PartialEq, Eq)]
+#[repr(C)]
 pub struct Settings {
     pub ops1: u32,
     pub ops2: u32,
@@ -17,6 +18,7 @@ pub struct Settings {
 // What the book of commands holds of a motor too: mode, last sure position, position, command under way, end in this
 // scan, flags and previous input word. Numbers and no enums: a record that is lent may hold any, and a scan tests their range.
 #[derive(Clone, Copy, Debug, Default, PartialEq, Eq)]
+#[repr(C)]
 pub struct Status {
     pub mode: u32,
     pub sure: u32,
@@ -29,13 +31,15 @@ pub struct Status {
 
 // An output, 0 none, 1 On or 2 Off, and its pulse sum: numbers, as in Status.
 #[derive(Clone, Copy, Debug, Default, PartialEq, Eq)]
+#[repr(C)]
 pub struct Output {
     pub state: u32,
     pub sum: u32,
 }
 
-// A motor's record: `sum` is the time sum of the command under way.
+// A motor's record: `sum` is the time sum of the command under way. In C it is fourteen numbers in the order of the fields (`motor_c`).
 #[derive(Clone, Copy, Debug, Default, PartialEq, Eq)]
+#[repr(C)]
 pub struct Motor {
     pub settings: Settings,
     pub status: Status,
