@@ -297,7 +297,7 @@ choice_sheets =
     ∷ sheet (wiring 195 0 500 300) (16 ∷ 8208 ∷ 208 ∷ []) (command ≔ 6 ∷ end ≔ 0 ∷ flags ≔ 1 ∷ [])
     ∷ sheet (wiring 225 0 500 300) (16 ∷ 8208 ∷ 16528 ∷ []) (command ≔ 6 ∷ end ≔ 0 ∷ [])
     ∷ sheet (wiring 209 0 500 300) (32 ∷ 4128 ∷ 33056 ∷ []) (command ≔ 7 ∷ end ≔ 0 ∷ [])
-    ∷ sheet wired (34 ∷ 38 ∷ 8226 ∷ []) (command ≔ 5 ∷ end ≔ 0 ∷ [])
+    ∷ sheet wired (32 ∷ 4128 ∷ 40 ∷ []) (command ≔ 7 ∷ end ≔ 0 ∷ [])
     -- where none is under way, not at its own position: not the last sure one, and a pretended one counts
     ∷ sheet wired (16 ∷ 4112 ∷ []) (command ≔ 0 ∷ [])
     ∷ sheet wired (32 ∷ 8224 ∷ []) (command ≔ 0 ∷ [])
