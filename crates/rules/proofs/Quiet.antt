@@ -1,22 +1,22 @@
 -- Steps that leave everything as it is, so that code may pass them over: 6 to 9 where no bit of the word has risen, and 3 and 4 where no
 -- command is under way and no pulse is running. Assumes nothing.
-use Prim.Native.Nat.{ℕ, ◌^◌, ◌<◌}
+use Prim.Native.Nat.{ℕ}
 use mathlib.Core.Path.{◌≡◌, refl, sym, ◌∙◌}
 use mathlib.Core.Bool.{Bool, true, false, and-false}
 use native.Mathlib.Nat.{zero-div}
-use Rattle.words.specs.Word.{when◌then◌else◌, bit_of, is_set, without}
-use Rattle.words.proofs.Laws.{risen_is, either}
+use Rattle.words.specs.Word.{when◌then◌else◌, bit_of, is_set}
+use Rattle.words.proofs.Laws.{either}
 use Rattle.rules.specs.declared.Settings.{Settings}
 use Rattle.rules.specs.declared.Status.{Status}
 use Rattle.rules.specs.declared.Motor.{Motor}
-use Rattle.rules.specs.Record.{commands, input_bit, bit_risen, command_risen, idle, with_mode, with_positions, with_command, with_flags, with_status}
+use Rattle.rules.specs.Record.{commands, input_bit, risen, bit_risen, command_risen, idle, with_mode, with_positions, with_command, with_flags, with_status}
 use Rattle.rules.specs.Resting.{idle_status}
 use Rattle.rules.specs.Steps.{status1, reading, status2, step3, step4, status4, end4, flags4, ended, confirmed, overdue, drops, running, status5, modes_risen, mode_changes, status6, acknowledges_off, acknowledges_on, flags7, status7, candidate, first_of, chosen, starts, displaces, issues, issued, step9, status10, steps1to5, steps6to10, step}
 
-module _ (s : Settings) (v : Status) (word : ℕ) (hw : word < 2 ^ 32) (hp : v.previous < 2 ^ 32) (none : without v.previous word ≡ 0) where
+module _ (s : Settings) (v : Status) (word : ℕ) (none : risen v word ≡ 0) where
   no_bit : (k : ℕ) → bit_risen v word k ≡ false
   unfolding bit_risen is_set bit_of
-  no_bit k = sym (risen_is k word v.previous hw hp) ∙ rw (none, zero-div) refl
+  no_bit k = rw (none, zero-div) refl
 
   no_mode : status6 s v word ≡ v
   unfolding status6 mode_changes modes_risen with_mode when◌then◌else◌
@@ -34,16 +34,14 @@ module _ (s : Settings) (v : Status) (word : ℕ) (hw : word < 2 ^ 32) (hp : v.p
   unfolding issued issues starts displaces when◌then◌else◌
   none_issued = rw no_choice (either (λ (t : Bool). ◌≡◌ {A = ℕ} (when t then 0 else 0) 0) (idle v) refl refl)
 
-pub quiet : (m : Motor) (word period : ℕ) → word < 2 ^ 32 → m.status.previous < 2 ^ 32 → without m.status.previous word ≡ 0
+pub quiet : (m : Motor) (word period : ℕ) → risen m.status word ≡ 0
     → step m word period ≡ with_status (steps1to5 m word period) (status10 (steps1to5 m word period).status word)
-unfolding step steps6to10 step9 with_status when◌then◌else◌
-quiet m word period hw hp none =
+unfolding step steps6to10 step9 with_status risen when◌then◌else◌
+quiet m word period none =
     let n = steps1to5 m word period in
     let e : n.status.previous ≡ m.status.previous = unfold steps1to5 with_status step4 step3 status5 status4 status2 status1 with_flags with_command with_positions in refl in
-    let z : without n.status.previous word ≡ 0 = rw e none in
-    let q : n.status.previous < 2 ^ 32 = rw e hp in
-    rw (no_mode n.settings n.status word hw q z, no_acknowledgement n.settings n.status word hw q z, none_issued n.settings n.status word hw q z)
-    refl
+    let z : risen n.status word ≡ 0 = rw e none in
+    rw (no_mode n.settings n.status word z, no_acknowledgement n.settings n.status word z, none_issued n.settings n.status word z) refl
 
 -- Where no command is under way and no pulse runs, steps 3 and 4 leave everything as it is.
 pub idle_first : (m : Motor) (word period : ℕ) → idle m.status ≡ true → running m.settings m.output ≡ false

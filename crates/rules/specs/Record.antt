@@ -3,7 +3,7 @@
 -- `x.f` is field f of x; `&&` is and, `||` or, `&&` binds before `||`; `eqb a b` is a = b, `leb a b` is a ≤ b, `ltb a b` is a < b.
 use Rattle.std.specs.Prelude.{ℕ, ◌+◌, Bool, ◌||◌, List, [], ◌∷◌, eqb, not, Option}
 use Rattle.std.specs.Bool.{then_some}
-use Rattle.words.specs.Word.{when◌then◌else◌, is_set, rose}
+use Rattle.words.specs.Word.{when◌then◌else◌, is_set, without}
 use Rattle.rules.specs.declared.Settings.{Settings}
 use Rattle.rules.specs.declared.Status.{Status}
 use Rattle.rules.specs.declared.Output.{Output}
@@ -159,9 +159,12 @@ flag v k = is_set k v.flags
 unfoldable pub overdue_flag : ℕ → ℕ
 overdue_flag c = 6 + c
 
--- Bit k has risen: it is 1 in the word and 0 in the previous one (rule 1.6)
+-- The risen word, rule 1.6: the bits that are 1 in the word and 0 in the previous one
+unfoldable pub risen : Status → ℕ → ℕ
+risen v word = without v.previous word
+
 unfoldable pub bit_risen : Status → ℕ → ℕ → Bool
-bit_risen v word k = rose k word v.previous
+bit_risen v word k = is_set k (risen v word)
 
 -- The input bit of a command has risen
 unfoldable pub command_risen : Status → ℕ → ℕ → Bool

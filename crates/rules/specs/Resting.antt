@@ -1,16 +1,15 @@
 -- A motor at rest in a scan. It is no rule, but what code may do in place of the ten steps: proofs/Resting.antt shows that it is the same.
 use Rattle.std.specs.Prelude.{ℕ, Bool, not, ◌&&◌, eqb}
-use Rattle.words.specs.Word.{without}
 use Rattle.rules.specs.declared.Settings.{Settings}
 use Rattle.rules.specs.declared.Status.{Status}
 use Rattle.rules.specs.declared.Output.{Output}
 use Rattle.rules.specs.declared.Reading.{Reading}
-use Rattle.rules.specs.Record.{idle}
+use Rattle.rules.specs.Record.{risen, idle}
 use Rattle.rules.specs.Steps.{running, status1, status2, status5, status10}
 
 -- No command is under way, no pulse runs, and no bit of the word has risen.
 unfoldable pub rests : Settings → Status → Output → ℕ → Bool
-rests s v o word = idle v && not (running s o) && eqb (without v.previous word) 0
+rests s v o word = idle v && not (running s o) && eqb (risen v word) 0
 
 -- Steps 1, 2 and 5, which are all of the first five where no command is under way and no pulse runs; r is what the switches read
 unfoldable pub idle_status : Settings → Status → ℕ → Reading → Status

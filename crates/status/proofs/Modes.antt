@@ -8,10 +8,10 @@ use native.Mathlib.Omega.{arith}
 use lib.Dec.{eqb, lit<}
 use lib.Bits.{bit_and, bit_or, and_high}
 use lib.Count.{ones, count_trailing_zeros, ones_cat}
-use Rattle.words.specs.Word.{when◌then◌else◌, bit_of, is_set, rose, without}
-use Rattle.words.proofs.Laws.{risen_is, agree_at}
+use Rattle.words.specs.Word.{when◌then◌else◌, bit_of, is_set}
+use Rattle.words.proofs.Laws.{agree_at}
 use Rattle.rules.specs.declared.Status.{Status}
-use Rattle.rules.specs.Record.{repair, reserve, work, bit_risen}
+use Rattle.rules.specs.Record.{repair, reserve, work, risen, bit_risen}
 use Rattle.rules.specs.Steps.{modes_risen, mode_asked}
 
 -- how many of three bits there are, and the mode of the lowest
@@ -44,18 +44,16 @@ pub record Counted (v : Status) (word x : ℕ) : Type 0 where
   pub least : 9 ≤ count_trailing_zeros 32 (bit_or x 2048)
   pub low : count_trailing_zeros 32 (bit_or x 2048) - 9 ≡ mode_asked v word
 
-pub counted : (v : Status) (word : ℕ) → word < 2 ^ 32 → v.previous < 2 ^ 32 → Counted v word (bit_and (without v.previous word) 3584)
+pub counted : (v : Status) (word : ℕ) → Counted v word (bit_and (risen v word) 3584)
 unfolding ones modes_risen mode_asked how_many lowest bit_risen is_set bit_of
-counted v word hw hp =
-    let r : ℕ = without v.previous word in
+counted v word =
+    let r : ℕ = risen v word in
     let q : ℕ = r / 512 % 8 in
     let e : q * 512 ≡ bit_and r 3584 = sym (and_high r 3 9) in
     let o : ones (q * 512) ≡ ones q = ap ones (sym (add-zero (q * 512))) ∙ ones_cat 9 q 0 (lit< tt) ∙ add-zero (ones q) in
     let s = says q (mod-lt (r / 512) (lit< tt)) in
-    let at : (k d : ℕ) → bit_of k r ≡ d → rose k word v.previous ≡ eqb d 1 =
-    λ k d t. sym (risen_is k word v.previous hw hp) ∙ ap (λ (n : ℕ). eqb n 1) t in
-    let a9 = at 9 (q % 2) (omega arith) in
-    let a10 = at 10 (q / 2 % 2) (omega arith) in
-    let a11 = at 11 (q / 4 % 2) (omega arith) in
+    let a9 : bit_of 9 r ≡ q % 2 = omega arith in
+    let a10 : bit_of 10 r ≡ q / 2 % 2 = omega arith in
+    let a11 : bit_of 11 r ≡ q / 4 % 2 = omega arith in
     subst (Counted v word) e
     (record { many = o ∙ s.many ∙ rw (a9, a10, a11); least = s.least; low = s.low ∙ rw (a9, a10) })

@@ -2,10 +2,10 @@
 #![tactic(auto, unfolding(rules::specs::Opened::opened))]
 
 ghost use Rattle.std.specs.Prelude.{◌≡◌};
-ghost use Rattle.rules.specs.Record.{direction, is_on, is_off, is_mu, is_ko, input_bit, command_risen};
+ghost use Rattle.rules.specs.Record.{direction, is_on, is_off, is_mu, is_ko, input_bit, risen, command_risen};
 
 use rules::Status;
-use words::has_risen;
+use words::{has, masked_out};
 
 // Direction, 1 off or 2 on, and input bit, by number, in constant arrays. No command has direction 0 and bit 32, which is
 // not in any word: with these the tests of a command hold for any number, where an Option would be asked for in each.
@@ -53,9 +53,16 @@ pub fn is_operator(c: u32) -> bool
     (c == 6) | (c == 7)
 }
 
+// The risen word: the bits that are 1 in the word and 0 in the previous one. Whatever goes by a rise goes by it.
+pub fn risen(v: Status, word: u32) -> u32
+    ensures { result ≡ risen v word }
+{
+    masked_out(word, v.previous)
+}
+
 // Whether a command's input bit has risen.
 pub fn is_risen(v: Status, word: u32, c: u32) -> bool
     ensures { result ≡ command_risen v word c }
 {
-    has_risen(word, v.previous, input_bit(c))
+    has(risen(v, word), input_bit(c))
 }

@@ -6,9 +6,9 @@ ghost use Rattle.std.specs.List.{list_any};
 ghost use Rattle.rules.specs.Record.{commands, command_risen};
 ghost use Rattle.rules.specs.Steps.{modes_risen, mode_asked, reserve_allowed, mode_allowed, mode_changes, status6};
 
-use crate::command::is_risen;
+use crate::command::{is_risen, risen};
 use rules::{Settings, Status};
-use words::{choose, has, masked_out};
+use words::{choose, has};
 
 // Bits 9 to 11 of the input word.
 const MODE_BITS: u32 = 3584;
@@ -20,14 +20,14 @@ const LAST_MODE_BIT: u32 = 2048;
 pub fn is_one_mode_risen(v: Status, word: u32) -> bool
     ensures { result ≡ eqb (modes_risen v word) 1 }
 {
-    u32::count_ones(masked_out(word, v.previous) & MODE_BITS) == 1
+    u32::count_ones(risen(v, word) & MODE_BITS) == 1
 }
 
 // The mode that the lowest risen bit of 9 to 11 asks for, or the last one.
 pub fn asked_mode(v: Status, word: u32) -> u32
     ensures { result ≡ mode_asked v word }
 {
-    let r = masked_out(word, v.previous) & MODE_BITS;
+    let r = risen(v, word) & MODE_BITS;
     u32::trailing_zeros(r | LAST_MODE_BIT) - 9
 }
 

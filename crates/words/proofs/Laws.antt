@@ -12,7 +12,7 @@ use lib.Arith.{lt-one}
 use lib.Pow.{pow_pos, pow-lt, pow_mono, pow-add, shl_lt, shl_exact, shr_lt, shr-shr, ones_lt, high_ones}
 use lib.Bits.{bit_and, bit_or, or_lt, and_le_l, and_high, and_step, and_shr, and_mod, or_add_and}
 use borrow.Author.Tests.{lt-ltb, le-ltb, ltb-true, ltb-false, leb-true, eq-eqb, ne_eqb, eqb-true, eqb-false}
-use Rattle.words.specs.Word.{when◌then◌else◌, bit_of, is_set, rose, without, without_bits, without_bit, with_bit}
+use Rattle.words.specs.Word.{when◌then◌else◌, bit_of, is_set, without, without_bits, without_bit, with_bit}
 
 -- a bit is 0 or 1
 pub bit_lt : (k w : ℕ) → bit_of k w < 2
@@ -83,59 +83,6 @@ clear_bit k w hk hw = rw (one_bit k) at (clear_bits k 1 w (omega arith) hw)
 pub clear_past : (k w : ℕ) → 32 ≤ k → w < 2 ^ 32 → without_bit k w ≡ w
 unfolding without_bit without_bits
 clear_past k w hk hw = rw (div-eq_of_lt (lt_of_lt_of_le hw (pow_mono hk)), zero-mul) (omega arith)
-
--- the bits of a complement
-not_bit : (k p : ℕ) → k < 32 → p < 2 ^ 32 → bit_of k (2 ^ 32 - 1 - p) ≡ 1 - bit_of k p
-unfolding bit_of
-not_bit k p hk hp =
-    let i : ℕ = 31 - k in
-    let e : suc i + k ≡ 32 = omega arith in
-    let h : p < 2 ^ (suc i + k) = rw e hp in
-    let t : (2 ^ 32 - 1 - p) / 2 ^ k ≡ 2 ^ suc i - 1 - p / 2 ^ k = subst (λ (n : ℕ). (2 ^ n - 1 - p) / 2 ^ k ≡ 2 ^ suc i - 1 - p / 2 ^ k) e (shr (suc i) k p h) in
-    omega (arith, ap (λ (n : ℕ). n % 2) t, pow-suc 2 i, shr_lt (suc i) k h)
-  where
-    shr : (i k p : ℕ) → p < 2 ^ (i + k) → (2 ^ (i + k) - 1 - p) / 2 ^ k ≡ 2 ^ i - 1 - p / 2 ^ k
-    shr i zero p h = simp (add-zero, div-one)
-    shr i (suc k) p h =
-        let e : 2 ^ (i + suc k) ≡ 2 ^ (i + k) * 2 = ap (λ (n : ℕ). 2 ^ n) (add-suc i k) ∙ pow-suc 2 (i + k) in
-        let s : (n : ℕ) → n / 2 ^ suc k ≡ n / 2 / 2 ^ k = λ n. ap (λ (m : ℕ). n / 2 ^ m) (sym (one-add k)) ∙ sym (shr-shr n 1 k) in
-        let half : (2 ^ (i + suc k) - 1 - p) / 2 ≡ 2 ^ (i + k) - 1 - p / 2 = omega arith in
-        s (2 ^ (i + suc k) - 1 - p) ∙ ap (λ (n : ℕ). n / 2 ^ k) half ∙ shr i k (p / 2) (omega arith)
-        ∙ ap (λ (n : ℕ). 2 ^ i - 1 - n) (sym (s p))
-
--- bit k of an and is the smaller of the two bits
-and_bits : (k a b : ℕ) → bit_of k (bit_and a b) ≡ min (bit_of k a) (bit_of k b)
-unfolding bit_of
-and_bits k a b =
-    ap (λ (n : ℕ). n % 2) (and_shr a b k) ∙ and_mod (a / 2 ^ k) (b / 2 ^ k) 1
-    ∙ small (a / 2 ^ k % 2) (b / 2 ^ k % 2) (mod-lt (a / 2 ^ k) (lit< tt)) (mod-lt (b / 2 ^ k) (lit< tt))
-  where
-    small : (x y : ℕ) → x < 2 → y < 2 → bit_and x y ≡ min x y
-    small zero zero p q = refl
-    small zero (suc y) p q = omega arith
-    small (suc zero) zero p q = refl
-    small (suc zero) (suc zero) p q = refl
-    small (suc zero) (suc (suc y)) p q = absurd (omega arith)
-    small (suc (suc x)) y p q = absurd (omega arith)
-
--- the bits of a word and not the previous one are those that have risen
-pub risen_is : (k w p : ℕ) → w < 2 ^ 32 → p < 2 ^ 32 → is_set k (without p w) ≡ rose k w p
-unfolding is_set without rose
-risen_is k w p hw hp = ap (λ (n : ℕ). eqb n 1) (and_bits k w (2 ^ 32 - 1 - p)) ∙ go (ltb k 32) refl
-  where
-    table : (x y : ℕ) → x < 2 → y < 2 → eqb (min x (1 - y)) 1 ≡ (eqb x 1 && not (eqb y 1))
-    table zero zero p q = refl
-    table zero (suc zero) p q = refl
-    table (suc zero) zero p q = refl
-    table (suc zero) (suc zero) p q = refl
-    table zero (suc (suc y)) p q = absurd (omega arith)
-    table (suc zero) (suc (suc y)) p q = absurd (omega arith)
-    table (suc (suc x)) y p q = absurd (omega arith)
-
-    go : (b : Bool) → ltb k 32 ≡ b
-        → eqb (min (bit_of k w) (bit_of k (2 ^ 32 - 1 - p))) 1 ≡ (eqb (bit_of k w) 1 && not (eqb (bit_of k p) 1))
-    go true e = rw (not_bit k p (ltb-true k 32 e) hp) (table (bit_of k w) (bit_of k p) (bit_lt k w) (bit_lt k p))
-    go false e = rw (bit_past k w (ltb-false k 32 e) hw, zero-min) refl
 
 -- ---- what setting and clearing leaves alone
 

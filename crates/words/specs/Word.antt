@@ -17,10 +17,6 @@ bit_of k w = w / 2 ^ k % 2
 unfoldable pub is_set : ℕ → ℕ → Bool
 is_set k w = eqb (bit_of k w) 1
 
--- rising: 1 now and 0 before
-unfoldable pub rose : ℕ → ℕ → ℕ → Bool
-rose k word previous = is_set k word && not (is_set k previous)
-
 -- a word and not a mask
 unfoldable pub without : ℕ → ℕ → ℕ
 without mask w = bit_and w (2 ^ 32 - 1 - mask)

@@ -3,7 +3,7 @@
 #![tactic(auto)]
 
 ghost use Rattle.std.specs.Prelude.{◌≡◌};
-ghost use Rattle.words.specs.Word.{when◌then◌else◌, bit_of, is_set, without, with_bit, without_bit, rose};
+ghost use Rattle.words.specs.Word.{when◌then◌else◌, bit_of, is_set, without, with_bit, without_bit};
 
 // Bit k of w, 0 or 1.
 #[tactic(auto, using(crate::proofs::Laws::bit_past), unfolding(crate::specs::Word::bit_of))]
@@ -21,20 +21,12 @@ pub fn has(w: u32, k: u32) -> bool
     bit(w, k) == 1
 }
 
-// The bits of w that mask lacks. Of an input word and the previous one: the bits that have risen.
+// The bits of w that mask lacks.
 #[tactic(auto, unfolding(crate::specs::Word::without))]
 pub fn masked_out(w: u32, mask: u32) -> u32
     ensures { result ≡ without mask w }
 {
     w & !mask
-}
-
-// Whether bit k has risen: 1 now and 0 before.
-#[tactic(auto, using(crate::proofs::Laws::risen_is))]
-pub fn has_risen(word: u32, previous: u32, k: u32) -> bool
-    ensures { result ≡ rose k word previous }
-{
-    has(masked_out(word, previous), k)
 }
 
 // w with bit k set.
