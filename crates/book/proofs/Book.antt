@@ -12,7 +12,7 @@ use Rattle.rules.specs.declared.Status.{Status}
 use Rattle.rules.specs.declared.Reading.{Reading}
 use Rattle.rules.specs.declared.Motor.{Motor}
 use Rattle.rules.specs.Record.{end_displaced, idle, fresh, with_mode, with_positions, with_command, with_flags, with_previous, with_status}
-use Rattle.rules.specs.Steps.{status1, reading, status2, overdue, ended, end4, flags4, status4, status5, status6, status7, status9, issue_status, status10, issued, step3, time_up, step4, issue, step9, status1to6, status7to10, steps1to5, steps6to10, step}
+use Rattle.rules.specs.Steps.{status1, reading, status2, overdue, ended, end4, flags4, status4, status5, status6, status7, status9, issue_status, status10, chosen, issues, issued, step3, time_up, step4, issue, step9, status1to6, status7to10, steps1to5, half, close, step}
 use Rattle.rules.specs.Scans.{Input}
 use Rattle.rules.proofs.Flags.{step9_status}
 use Rattle.book.specs.Log.{Log, none, ◌▸◌, count}
@@ -24,6 +24,10 @@ use Rattle.book.specs.Book.{Book, since, is_up, book1to6, book_scan, book_of}
 -- whether the time is up, as the record has it
 unfoldable up_of : Settings → Status → ℕ → ℕ → Bool
 up_of s v sum p = leb s.w (when idle v then sum else sum + p)
+
+-- the command that steps 8 and 9 issue
+abbrev pub issued_by : Settings → Status → ℕ → ℕ
+issued_by s v word = issued v (chosen s v word)
 
 -- a command under way ends in step 4, and the end that this gives
 unfoldable pub ends_in : Settings → Status → ℕ → Bool → Bool
@@ -41,20 +45,20 @@ unfolding step9 issue
 step9_sum m c = if_map (λ (n : Motor). n.sum) (eqb c 0) m (issue m c)
 
 settings_step : (m : Motor) (word p : ℕ) → (step m word p).settings ≡ m.settings
-unfolding step steps1to5 steps6to10 with_status step4 step3
+unfolding step steps1to5 half close with_status step4 step3
 settings_step m word p = step9_settings _ _
 
 status_step : (m : Motor) (word p : ℕ) (s : Settings) (v : Status) → m.settings ≡ s → m.status ≡ v
     → (step m word p).status ≡ status7to10 s (status1to6 s v word (up_of s v m.sum p)) word
-unfolding step steps1to5 steps6to10 with_status step4 step3 time_up status1to6 status7to10 up_of idle status2 status1 with_flags with_positions with_command
+unfolding step steps1to5 half close with_status step4 step3 time_up status1to6 status7to10 up_of idle status2 status1 status7 issued issues with_flags with_positions with_command
 status_step m word p s v e f = rw (← e, ← f) (ap (λ (v : Status). status10 v word) (step9_status _ _))
 
 sum_step : (m : Motor) (word p : ℕ) (s : Settings) (v : Status) → m.settings ≡ s → m.status ≡ v
     → (step m word p).sum
-    ≡ (when eqb (issued s (status1to6 s v word (up_of s v m.sum p)) word) 0
+    ≡ (when eqb (issued_by s (status1to6 s v word (up_of s v m.sum p)) word) 0
     then (when ends_in s v word (up_of s v m.sum p) then 0 else when idle v then m.sum else m.sum + p)
     else 0)
-unfolding step steps1to5 steps6to10 with_status step4 step3 time_up status1to6 ends_in up_of idle status2 status1 with_flags with_positions with_command
+unfolding step steps1to5 half close with_status step4 step3 time_up status1to6 ends_in up_of idle status2 status1 status7 issued issues with_flags with_positions with_command
 sum_step m word p s v e f = rw (← e, ← f) (step9_sum _ _)
 
 -- ---- the book's status, by its parts
@@ -62,13 +66,13 @@ sum_step m word p s v e f = rw (← e, ← f) (step9_sum _ _)
 -- command and end after a scan
 pub command_after : (s : Settings) (v : Status) (word : ℕ) (up : Bool)
     → (status7to10 s (status1to6 s v word up) word).command
-    ≡ (when eqb (issued s (status1to6 s v word up) word) 0 then (when ends_in s v word up then 0 else v.command) else issued s (status1to6 s v word up) word)
+    ≡ (when eqb (issued_by s (status1to6 s v word up) word) 0 then (when ends_in s v word up then 0 else v.command) else issued_by s (status1to6 s v word up) word)
 unfolding status7to10 status10 status9 with_previous issue_status status7 with_flags with_mode with_command with_positions status1to6 status6 status5 status4 status2 status1 ends_in
 command_after s v word up = if_map (λ (x : Status). x.command) _ _ _
 
 pub end_after : (s : Settings) (v : Status) (word : ℕ) (up : Bool)
     → (status7to10 s (status1to6 s v word up) word).end
-    ≡ (when eqb (issued s (status1to6 s v word up) word) 0 then end_in s v word up
+    ≡ (when eqb (issued_by s (status1to6 s v word up) word) 0 then end_in s v word up
     else when eqb (when ends_in s v word up then 0 else v.command) 0 then end_in s v word up else end_displaced)
 unfolding status7to10 status10 status9 with_previous issue_status status7 with_flags with_mode with_command with_positions status1to6 status6 status5 status4 status2 status1 ends_in end_in ended end4 idle
 end_after s v word up = if_map (λ (x : Status). x.end) _ _ _
@@ -131,12 +135,12 @@ module _ (s : Settings) (h : Log Input) (m : Motor) (b : Book) (x : Input) (k : 
 
   sum_held : idle (status7to10 s (status1to6 s b.status x.word up_b) x.word) ≡ false
       → (step m x.word x.period).sum
-      ≡ since (when eqb (issued s (status1to6 s b.status x.word up_b) x.word) 0 then b.issue else count (h ▸ x)) (h ▸ x)
+      ≡ since (when eqb (issued_by s (status1to6 s b.status x.word up_b) x.word) 0 then b.issue else count (h ▸ x)) (h ▸ x)
   unfolding idle up_m
   sum_held i =
       sum_step m x.word x.period s b.status k.settings_is k.status_is
       ∙ rw (← to6_same)
-      (held_sum (issued s (status1to6 s b.status x.word up_m) x.word) _ _
+      (held_sum (issued_by s (status1to6 s b.status x.word up_m) x.word) _ _
       (rw (command_after s b.status x.word up_m) at (rw (← to6_same) at i)))
 
   pub held : Held s (h ▸ x) (step m x.word x.period) (book_scan s b (h ▸ x) x.word)

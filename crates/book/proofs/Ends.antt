@@ -20,7 +20,7 @@ use Rattle.rules.proofs.Flags.{keeps5, keeps7to10}
 use Rattle.book.specs.Log.{Log, none, ◌▸◌, ◌⧺◌, count}
 use Rattle.book.specs.Book.{is_up, book1to6, book_scan, book_of}
 use Rattle.book.specs.Claim.{UnderWay, Issued, chosen_in, fate, Quiet, Ends}
-use Rattle.book.proofs.Book.{book_held, ends_in, end_in, command_after, end_after}
+use Rattle.book.proofs.Book.{book_held, issued_by, ends_in, end_in, command_after, end_after}
 
 -- ---- one turn, by its numbers
 
@@ -97,7 +97,7 @@ command_lt s (h ▸ x) =
     let b = book_of s h in
     let up = is_up s b.issue (h ▸ x) in
     rw (command_after s b.status x.word up)
-    (if_lt _ (if_lt _ (lit< tt) (command_lt s h)) (issued_fits s (status1to6 s b.status x.word up) x.word))
+    (if_lt _ (if_lt _ (lit< tt) (command_lt s h)) (issued_fits s (status1to6 s b.status x.word up) (status1to6 s b.status x.word up) x.word))
 
 pub three : (x up d : Bool) → ◌≡◌ {A = ℕ} (when x then 1 else when up then 3 else when d then 2 else 0) 3 → (x ≡ false) × (up ≡ true)
 unfolding when◌then◌else◌
@@ -118,7 +118,7 @@ module _ (s : Settings) (v : Status) (word : ℕ) (up : Bool) (live : idle v ≡
   unfolding x end_in end4 status2 status1 with_flags with_positions with_command confirmed overdue idle
   end_live = rw live
 
-  issued_live : issued s (status1to6 s v word up) word
+  issued_live : issued_by s (status1to6 s v word up) word
       ≡ (when (when eqb (when x || not x && up then 0 else v.command) 0 then starts (chosen s (status1to6 s v word up) word) (status1to6 s v word up).position
       else displaces (chosen s (status1to6 s v word up) word) (when x || not x && up then 0 else v.command))
       then chosen s (status1to6 s v word up) word else 0)
@@ -163,7 +163,7 @@ module _ (s : Settings) (h : Log Input) (y : Input) where
         ends_live s v y.word up live,
         end_live s v y.word up live,
       )
-      (turn v.command (chosen s w y.word) (issued s w y.word) b.issue (count (h ▸ y)) (confirms (reading s y.word) v.command) up
+      (turn v.command (chosen s w y.word) (issued_by s w y.word) b.issue (count (h ▸ y)) (confirms (reading s y.word) v.command) up
       (starts (chosen s w y.word) w.position) live (issued_live s v y.word up live))
 
   flag_at : idle (book_of s h).status ≡ false → fate s (book_of s h).status.command (book_of s h).issue h y ≡ end_overdue
@@ -181,7 +181,7 @@ module _ (s : Settings) (h : Log Input) (y : Input) where
   idle_at id ne =
       let b = book_of s h in
       let up = is_up s b.issue (h ▸ y) in
-      let q = issued s (status1to6 s b.status y.word up) y.word in
+      let q = issued_by s (status1to6 s b.status y.word up) y.word in
       idle_go (eqb q 0) _ q b.issue (count (h ▸ y)) b.status.command (eqb-true _ 0 id) (rw (command_after s b.status y.word up) at ne)
 
   pub idle_end : idle (book_of s h).status ≡ true → (book_of s (h ▸ y)).status.end ≡ no_end
@@ -190,7 +190,7 @@ module _ (s : Settings) (h : Log Input) (y : Input) where
       let b = book_of s h in
       let up = is_up s b.issue (h ▸ y) in
       rw (end_after s b.status y.word up, ends_idle s b.status y.word up id, end_idle s b.status y.word up id, id)
-      (either (λ (n : ℕ). n ≡ no_end) (eqb (issued s (status1to6 s b.status y.word up) y.word) 0) refl refl)
+      (either (λ (n : ℕ). n ≡ no_end) (eqb (issued_by s (status1to6 s b.status y.word up) y.word) 0) refl refl)
 
   module _ (c i : ℕ) (u : UnderWay s c i h) where
     live_of : idle (book_of s h).status ≡ false

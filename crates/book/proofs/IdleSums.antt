@@ -9,7 +9,7 @@ use Rattle.rules.specs.declared.Output.{Output}
 use Rattle.rules.specs.declared.Motor.{Motor}
 use Rattle.rules.specs.declared.Reading.{Reading}
 use Rattle.rules.specs.Record.{no_command, idle, dropped, fresh, with_mode, with_positions, with_command, with_flags, with_previous, with_status}
-use Rattle.rules.specs.Steps.{status1, status2, running, step3, ended, status4, time_up, drops, step4, status5, status6, status7, raised, without_opposite, output9, issue, step9, status10, steps1to5, steps6to10, step}
+use Rattle.rules.specs.Steps.{status1, status2, running, step3, ended, status4, time_up, drops, step4, status5, status6, status7, raised, without_opposite, output9, issue, step9, status10, steps1to5, half, close, step}
 use Rattle.rules.specs.Scans.{Input}
 use Rattle.book.specs.Log.{Log, none, ◌▸◌}
 use Rattle.book.specs.History.{Entry, record_after, history, record_of}
@@ -59,13 +59,9 @@ kept1to5 : (m : Motor) (word period : ℕ) → IdleSums m → IdleSums (steps1to
 unfolding steps1to5 status1 status2 status5 with_command with_positions with_flags
 kept1to5 m word period k = status_kept _ _ refl (kept4 _ _ (kept3 _ period (status_kept m _ refl k)))
 
-kept6to10 : (m : Motor) (word : ℕ) → IdleSums m → IdleSums (steps6to10 m word)
-unfolding steps6to10 status6 status7 status10 with_mode with_flags with_previous
-kept6to10 m word k = status_kept _ _ refl (kept9 _ _ (status_kept m _ refl k))
-
 kept : (m : Motor) (word period : ℕ) → IdleSums m → IdleSums (step m word period)
-unfolding step
-kept m word period k = kept6to10 (steps1to5 m word period) word (kept1to5 m word period k)
+unfolding step half close status6 status7 status10 with_mode with_flags with_previous
+kept m word period k = status_kept _ _ refl (kept9 _ _ (status_kept _ _ refl (kept1to5 m word period k)))
 
 over_history : (s : Settings) (h : Log Input) → IdleSums (record_of s h)
 unfolding record_of fresh dropped

@@ -4,7 +4,7 @@ use Rattle.words.specs.Word.{when◌then◌else◌}
 use Rattle.rules.specs.declared.Settings.{Settings}
 use Rattle.rules.specs.declared.Status.{Status}
 use Rattle.rules.specs.Record.{no_command, fresh_status}
-use Rattle.rules.specs.Steps.{issued, status1to6, status7to10}
+use Rattle.rules.specs.Steps.{chosen, issued, status1to6, status7to10}
 use Rattle.rules.specs.Scans.{Input}
 use Rattle.book.specs.Log.{Log, none, ◌▸◌, count}
 
@@ -32,7 +32,7 @@ book_scan s b h word =
     let v = book1to6 s b h word in
     record {
       status = status7to10 s v word;
-      issue = when eqb (issued s v word) no_command then b.issue else count h;
+      issue = when eqb (issued v (chosen s v word)) no_command then b.issue else count h;
     }
 
 -- From a fresh status on, scan by scan

@@ -114,7 +114,7 @@ pub fn accept(m: Motor, word: u32, period: u32) -> Result<(), Refusal>
 }
 
 // One scan: the record after the ten steps, or a refusal. The rules that it keeps are those of the sheets.
-#[tactic(auto, using(rules::proofs::Tables::one_accepted, rules::proofs::Tables::one_refused, rules::proofs::Range::one_in_limits, rules::proofs::Range::steppable, rules::proofs::Sheets::given_right, rules::proofs::Sheets::own_right))]
+#[tactic(auto, using(rules::proofs::Tables::one_accepted, rules::proofs::Tables::one_refused, rules::proofs::Range::one_in_limits, rules::proofs::Range::sums_fit, rules::proofs::Sheets::given_right, rules::proofs::Sheets::own_right))]
 pub fn scan(m: Motor, word: u32, period: u32) -> Result<Motor, Refusal>
     ensures code { code_of result ≡ one_refusal m word period }
     ensures motor { result_unwrap_or result m ≡ one_after m word period }

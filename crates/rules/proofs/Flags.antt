@@ -11,8 +11,8 @@ use Rattle.rules.specs.declared.Settings.{Settings}
 use Rattle.rules.specs.declared.Status.{Status}
 use Rattle.rules.specs.declared.Motor.{Motor}
 use Rattle.rules.specs.declared.Reading.{Reading}
-use Rattle.rules.specs.Record.{flag, with_mode, with_command, with_flags, with_previous, with_status}
-use Rattle.rules.specs.Steps.{reading, supply_fault, switch_fault, both_closed, closed_fault, put_flag, status5, status6, flags7, status7, flags9, issue_status, status9, issue, step9, status10, status7to10, steps1to5, steps6to10, step}
+use Rattle.rules.specs.Record.{flag, idle, with_mode, with_command, with_flags, with_previous, with_status}
+use Rattle.rules.specs.Steps.{reading, supply_fault, switch_fault, both_closed, closed_fault, put_flag, status5, status6, flags7, status7, flags9, issue_status, status9, issue, step9, status10, status7to10, steps1to5, half, close, issued, issues, step}
 
 -- ---- setting, clearing and putting
 
@@ -74,11 +74,13 @@ pub step9_status : (m : Motor) (c : ℕ) → (step9 m c).status ≡ status9 m.se
 unfolding step9 status9 issue
 step9_status m c = if_map (λ (n : Motor). n.status) (eqb c 0) m (issue m c)
 
-keeps6to10 : (m : Motor) (word k : ℕ) → Other k → flag (steps6to10 m word).status k ≡ flag m.status k
-unfolding steps6to10 status7to10 with_status
-keeps6to10 m word k o =
+-- what a scan leaves of a flag after its fifth step
+keeps6to10 : (m : Motor) (word period k : ℕ) → Other k → flag (step m word period).status k ≡ flag (steps1to5 m word period).status k
+unfolding step half close status7to10 with_status issued issues idle status7 with_flags
+keeps6to10 m word period k o =
+    let n = steps1to5 m word period in
     ap (λ (v : Status). flag (status10 v word) k) (step9_status _ _)
-    ∙ keeps7to10 m.settings (status6 m.settings m.status word) word k o ∙ unfold status6 with_mode flag in refl
+    ∙ keeps7to10 n.settings (status6 n.settings n.status word) word k o ∙ unfold status6 with_mode flag in refl
 
 -- ---- flag 14
 
@@ -92,9 +94,7 @@ formed s v word r =
 -- Flag 14 stands together with flag 1 if both switches are closed, and is 0 after every other scan.
 pub closed_flag : (m : Motor) (word period : ℕ)
     → flag (step m word period).status 14 ≡ (flag (step m word period).status 1 && both_closed (reading m.settings word))
-unfolding step
 closed_flag m word period =
-    let n = steps1to5 m word period in
     let r = reading m.settings word in
-    keeps6to10 n word 14 (inr (lit< tt)) ∙ unfold steps1to5 with_status in formed _ _ word r
-    ∙ ap (λ (b : Bool). b && both_closed r) (sym (keeps6to10 n word 1 (inl (lit< tt))))
+    keeps6to10 m word period 14 (inr (lit< tt)) ∙ unfold steps1to5 with_status in formed _ _ word r
+    ∙ ap (λ (b : Bool). b && both_closed r) (sym (keeps6to10 m word period 1 (inl (lit< tt))))

@@ -18,9 +18,9 @@ use Rattle.rules.specs.declared.Motor.{Motor}
 use Rattle.rules.specs.declared.Reading.{Reading}
 use Rattle.rules.specs.declared.Reading.TheVariants.{Off, On, BothOpen, BothClosed}
 use Rattle.rules.specs.Record.{ops₁, commands, idle, own_output, overdue_flag, fresh_status, dropped, fresh, with_mode, with_positions, with_command, with_flags, with_previous, with_status}
-use Rattle.rules.specs.Steps.{flags1, status1, reading, position_read, flags2, pretended, status2, running, step3, confirmed, overdue, ended, end4, flags4, status4, time_up, pulse_over, drops, step4, put_flag, status5, mode_asked, status6, flags7, status7, chosen, first_of, issued, flags9, issue_status, raised, without_opposite, output9, issue, step9, status10, steps1to5, steps6to10, step}
+use Rattle.rules.specs.Steps.{flags1, status1, reading, position_read, flags2, pretended, status2, running, step3, confirmed, overdue, ended, end4, flags4, status4, time_up, pulse_over, drops, step4, put_flag, status5, mode_asked, status6, flags7, status7, chosen, first_of, issued, flags9, issue_status, raised, without_opposite, output9, issue, step9, status10, steps1to5, half, close, step}
 use Rattle.rules.specs.Refusals.{most_flags, settings_in_range, status_in_range, output_in_range, in_range, period_ok, word_ok, one_refusal, one_after}
-use Rattle.rules.specs.Scans.{Input, scans, Steppable}
+use Rattle.rules.specs.Scans.{Input, scans, SumsFit}
 use Rattle.rules.proofs.Tables.{if_zero}
 
 -- ---- the ranges, as bounds
@@ -116,13 +116,15 @@ keeps7 s v word f =
     let g = if_lt _ (clear 5 2 f.flags) f.flags in
     with_flags_lem f (if_lt _ (clear_one 4 g) g)
 
-pub issued_fits : (s : Settings) (v : Status) (word : ℕ) → issued s v word < 8
-unfolding issued chosen first_of commands
-issued_fits s v word =
-    if_lt _
-    (if_lt _ (lit< tt)
-    (if_lt _ (lit< tt) (if_lt _ (lit< tt) (if_lt _ (lit< tt) (if_lt _ (lit< tt) (if_lt _ (lit< tt) (if_lt _ (lit< tt) (lit< tt))))))))
-    (lit< tt)
+chosen_fits : (s : Settings) (v : Status) (word : ℕ) → chosen s v word < 8
+unfolding chosen first_of commands
+chosen_fits s v word =
+    if_lt _ (lit< tt)
+    (if_lt _ (lit< tt) (if_lt _ (lit< tt) (if_lt _ (lit< tt) (if_lt _ (lit< tt) (if_lt _ (lit< tt) (if_lt _ (lit< tt) (lit< tt)))))))
+
+pub issued_fits : (s : Settings) (v w : Status) (word : ℕ) → issued w (chosen s v word) < 8
+unfolding issued
+issued_fits s v w word = if_lt _ (chosen_fits s v word) (lit< tt)
 
 keeps_issue : (s : Settings) (v : Status) (c : ℕ) → c < 8 → Fits v → Fits (issue_status s v c)
 unfolding issue_status flags9
@@ -228,17 +230,16 @@ keeps1to5 m word period f =
     let g = keeps34 _ r period (with_status_lem f (keeps2 s _ r (keeps1 m.status word f.status))) in
     with_status_lem g (keeps5 s _ word r g.status)
 
-keeps6to10 : (m : Motor) (word : ℕ) → word < 131072 → RecordFits m → RecordFits (steps6to10 m word)
-unfolding steps6to10
-keeps6to10 m word h f =
-    let s = m.settings in
-    let v = keeps6 s m.status word f.status in
-    let g = keeps9 _ _ (issued_fits s (status6 s m.status word) word) (with_status_lem f (keeps7 s _ word v)) in
-    with_status_lem g (keeps10 _ word h g.status)
-
 keeps : (m : Motor) (word period : ℕ) → word < 131072 → RecordFits m → RecordFits (step m word period)
-unfolding step
-keeps m word period h f = keeps6to10 (steps1to5 m word period) word h (keeps1to5 m word period f)
+unfolding step half close with_status
+keeps m word period h f =
+    let n = steps1to5 m word period in
+    let s = n.settings in
+    let v = status6 s n.status word in
+    let k = keeps1to5 m word period f in
+    let at7 = with_status_lem k (keeps7 s v word (keeps6 s n.status word k.status)) in
+    let g = keeps9 _ _ (issued_fits s v (status7 s v word) word) at7 in
+    with_status_lem g (keeps10 _ word h g.status)
 
 -- ---- the bounds are the tests of the refusal
 
@@ -336,16 +337,12 @@ one_in_limits m word period h =
     let c = if_zero (not (word_ok word)) 3 0 (lit< tt) b.1 in
     record { range = not-false _ a.0; time = not-false _ b.0; input = not-false _ c.0 }
 
--- an accepted scan has what its code needs
-pub steppable : {m : Motor} {word period : ℕ} → OneAccepted m word period → Steppable m period
+-- the sums of an accepted scan fit
+pub sums_fit : {m : Motor} {word period : ℕ} → OneAccepted m word period → SumsFit m period
 unfolding period_ok
-steppable {m} {word} {period} a =
+sums_fit {m} {word} {period} a =
     let f = record_fits m a.range in
-    let v = f.status in
-    record {
-      sums = record { sum = f.sum; pulse = f.pulse; time = leb-true period 10000 (and_true (leb 1 period) _ a.time).1 };
-      previous = omega (arith, v.previous);
-    }
+    record { sum = f.sum; pulse = f.pulse; time = leb-true period 10000 (and_true (leb 1 period) _ a.time).1 }
 
 -- ---- the range is kept
 

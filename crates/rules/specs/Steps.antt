@@ -10,6 +10,7 @@ use Rattle.rules.specs.declared.Settings.{Settings}
 use Rattle.rules.specs.declared.Status.{Status}
 use Rattle.rules.specs.declared.Output.{Output}
 use Rattle.rules.specs.declared.Motor.{Motor}
+use Rattle.rules.specs.declared.Half.{Half}
 use Rattle.rules.specs.declared.Reading.{Reading}
 use Rattle.rules.specs.declared.Reading.TheVariants.{Off, On, BothOpen, BothClosed}
 use Rattle.rules.specs.Record.{ops₁, ops₂, local_mode, on_switch, off_switch, no_supply, forbid_on, forbid_off, reset, repair, reserve, work, unsure, off, on, no_end, end_confirmed, end_displaced, end_overdue, no_output, no_command, commands, sma_off, lz_off, lz_on, ko_off, ko_on, is_mu, is_ko, is_on, is_off, direction, own_output, opposite_output, flag, overdue_flag, bit_risen, command_risen, idle, dropped, with_mode, with_positions, with_command, with_flags, with_previous, with_status}
@@ -250,9 +251,9 @@ displaces new old = not (eqb new no_command) && ltb new old && (not (eqb (direct
 unfoldable pub issues : Status → ℕ → Bool
 issues v new = when idle v then starts new v.position else displaces new v.command
 
--- the command that is issued, if any
-unfoldable pub issued : Settings → Status → ℕ → ℕ
-issued s v word = when issues v (chosen s v word) then chosen s v word else no_command
+-- the chosen command where it is issued, and else none. This is asked of command and position alone, which step 7 leaves.
+unfoldable pub issued : Status → ℕ → ℕ
+issued v c = when issues v c then c else no_command
 
 -- Rule 3.9, issuing c: its direction clears flags 5 and 6, or 4; LZ on, LZ off and SMA then set one of their own
 unfoldable pub flags9 : ℕ → ℕ → ℕ
@@ -315,9 +316,9 @@ status1to6 s v word up =
     status6 s (status5 s (status4 (status2 s (status1 v word) r) r up) word r) word
 
 unfoldable pub status7to10 : Settings → Status → ℕ → Status
-status7to10 s v word = status10 (status9 s (status7 s v word) (issued s v word)) word
+status7to10 s v word = status10 (status9 s (status7 s v word) (issued v (chosen s v word))) word
 
--- The ten steps on the record.
+-- The ten steps on the record
 unfoldable pub steps1to5 : Motor → ℕ → ℕ → Motor
 steps1to5 m word period =
     let s = m.settings in
@@ -326,12 +327,18 @@ steps1to5 m word period =
     let m₄ = step4 (step3 m₂ period) r in
     with_status m₄ (status5 s m₄.status word r)
 
-unfoldable pub steps6to10 : Motor → ℕ → Motor
-steps6to10 m word =
-    let s = m.settings in
-    let v₆ = status6 s m.status word in
-    let m₉ = step9 (with_status m (status7 s v₆ word)) (issued s v₆ word) in
+-- The first half of a scan: steps 1 to 7, and the choice of step 8
+unfoldable pub half : Motor → ℕ → ℕ → Half
+half m word period =
+    let n = steps1to5 m word period in
+    let v₆ = status6 n.settings n.status word in
+    record { motor = with_status n (status7 n.settings v₆ word); chosen = chosen n.settings v₆ word }
+
+-- The second: the rest of step 8, and steps 9 and 10
+unfoldable pub close : Half → ℕ → Motor
+close h word =
+    let m₉ = step9 h.motor (issued h.motor.status h.chosen) in
     with_status m₉ (status10 m₉.status word)
 
 unfoldable pub step : Motor → ℕ → ℕ → Motor
-step m word period = steps6to10 (steps1to5 m word period) word
+step m word period = close (half m word period) word

@@ -47,6 +47,13 @@ pub struct Motor {
     pub output: Output,
 }
 
+// What the first half of a scan leaves: the record after step 7, and the command that step 8 chose, 0 for none.
+#[derive(Clone, Copy)]
+pub struct Half {
+    pub motor: Motor,
+    pub chosen: u32,
+}
+
 // What the switches read: a position, or none for one of two causes, which step 5 tells apart: hence no Option.
 #[derive(Clone, Copy, Debug, PartialEq, Eq)]
 pub enum Reading {

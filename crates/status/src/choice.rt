@@ -4,7 +4,7 @@
 
 ghost use Rattle.std.specs.Prelude.{◌≡◌};
 ghost use Rattle.rules.specs.Record.{command_of};
-ghost use Rattle.rules.specs.Steps.{acknowledges_off, acknowledges_on, flags7, status7, acknowledges, wrong_place, on_forbidden, off_forbidden, admitted, candidate, chosen, displaces, starts, issues, issued};
+ghost use Rattle.rules.specs.Steps.{acknowledges_off, acknowledges_on, flags7, status7, acknowledges, wrong_place, on_forbidden, off_forbidden, admitted, candidate, chosen, displaces, starts, issues};
 
 use crate::command::{direction_of, is_local, is_off, is_on, is_operator, is_risen};
 use crate::issue::OFF_FLAGS;
@@ -109,6 +109,7 @@ pub fn is_displacing(new: u32, old: u32) -> bool
     (new != 0) & (new < old) & ((direction_of(new) != direction_of(old)) | (new == 1))
 }
 
+// Whether the chosen command is issued: rule 3.8.
 pub fn is_issued(v: Status, new: u32) -> bool
     ensures { result ≡ issues v new }
 {
@@ -117,11 +118,4 @@ pub fn is_issued(v: Status, new: u32) -> bool
     } else {
         is_displacing(new, v.command)
     }
-}
-
-// The command that is issued: rule 3.8.
-pub fn to_issue(s: Settings, v: Status, word: u32) -> Option<u32>
-    ensures { result ≡ command_of (issued s v word) }
-{
-    choice(s, v, word).filter(|&c| is_issued(v, c))
 }
