@@ -20,7 +20,7 @@ use status::switches::read;
 
 // A motor through a scan that is accepted. At rest its status alone is reckoned, and written. It is the body of print's loop, which counts
 // the totals too: a dump has none.
-#[tactic(auto, using(interpreter::proofs::ScanLaws::rested, rules::proofs::Tables::one_accepted), unfolding(rules::specs::Record::with_status))]
+#[tactic(auto, using(rules::proofs::Resting::resting, rules::proofs::Tables::one_accepted), unfolding(rules::specs::Record::with_status))]
 fn step(m: &mut Motor, word: u32, period: u32)
     requires { one_refusal m.old word period ≡ 0 }
     ensures { m.new ≡ step m.old word period }

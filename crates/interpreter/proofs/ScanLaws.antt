@@ -8,15 +8,12 @@ use Rattle.std.specs.Prelude.{Some, None, Result}
 use Rattle.std.specs.Result.{is_ok}
 use Rattle.words.specs.Word.{when◌then◌else◌}
 use Rattle.rules.specs.declared.Motor.{Motor}
-use Rattle.rules.specs.Record.{with_status}
 use Rattle.rules.specs.Steps.{reading, step}
-use Rattle.rules.specs.Resting.{rests, rested_status}
 use Rattle.rules.specs.Refusals.{most_motors, in_range, word_ok, period_ok, misfit, one_refusal, table_refusal, part_refusal, part_after}
 use Rattle.rules.specs.declared.Refusal.{Refusal}
 use Rattle.rules.specs.Numbers.{code_of}
 use Rattle.rules.proofs.Numbers.{is_ok-from_zero}
-use Rattle.rules.proofs.Range.{one_in_limits, steppable}
-use Rattle.rules.proofs.Resting.{resting}
+use Rattle.rules.proofs.Range.{one_in_limits}
 use Rattle.rules.proofs.Tables.{list_all_each, one_accepts, accepted, part_front}
 use Rattle.sheet.specs.Grammar.{next_at}
 use Rattle.sheet.specs.declared.Request.TheVariants.{Scan as S}
@@ -25,15 +22,6 @@ use Rattle.interpreter.specs.Lines.{FoundScan, ReadyBench}
 use Rattle.interpreter.specs.declared.Bench.{Bench}
 use Rattle.interpreter.proofs.ActLaws.{in_array, scan_code}
 use Rattle.interpreter.proofs.Kept.{after_in_range}
-
--- ---- a motor at rest
-
-pub rested : (m : Motor) (word period : ℕ) → one_refusal m word period ≡ 0 → rests m.settings m.status m.output word ≡ true
-    → step m word period ≡ with_status m (rested_status m.settings m.status word (reading m.settings word))
-unfolding word_ok
-rested m word period h e =
-    let a = one_in_limits m word period h in
-    resting m word period (omega (arith, leb-true word 131071 a.input)) (omega (arith, (steppable a).previous)) e
 
 -- ---- the motors in use
 

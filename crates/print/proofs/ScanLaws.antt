@@ -41,7 +41,8 @@ use Rattle.interpreter.specs.declared.lines.Inputs.{Inputs}
 use Rattle.sheet.specs.Grammar.{next_at}
 use Rattle.interpreter.proofs.ActLaws.{take_used}
 use Rattle.print.proofs.PrintLaws.{rows_more}
-use Rattle.interpreter.proofs.ScanLaws.{rested, due, all_due, range_kept}
+use Rattle.rules.proofs.Resting.{resting}
+use Rattle.interpreter.proofs.ScanLaws.{due, all_due, range_kept}
 use Rattle.interpreter.proofs.LineLaws.{words_right, same_size as words_size}
 use Rattle.print.proofs.AdvanceLaws.{sitting, inputs_of, run_scan}
 
@@ -59,12 +60,12 @@ not_on BothClosed other e = absurd (omega (arith, e))
 module _ (ms : List Motor) (ts : List Totals) (i : ℕ) (m : Motor) (t : Totals) (word period : ℕ) (ok : one_refusal m word period ≡ 0) {r : Reading} (read : r ≡ reading m.settings word) where
   module _ (e : rests m.settings m.status m.output word ≡ true) where
     pub set_rested : {v : Status} → v ≡ rested_status m.settings m.status word r → set ms i (with_status m v) ≡ set ms i (step m word period)
-    set_rested f = ap (set ms i) (ap (with_status m) (rw read at f) ∙ sym (rested m word period ok e))
+    set_rested f = ap (set ms i) (ap (with_status m) (rw read at f) ∙ sym (resting m word period e))
 
     pub set_rested_totals : {time : ℕ} → time ≡ on_after t.on r period → set ts i (with_on t time) ≡ set ts i (scan_totals t m word period)
     unfolding scan_totals rests with_status
     set_rested_totals f =
-        ap (set ts i) (rw (rested m word period ok e, f, read) (sym (rest_totals t m word period (reading m.settings word) (and_true _ _ (and_true _ _ e).0).0)))
+        ap (set ts i) (rw (resting m word period e, f, read) (sym (rest_totals t m word period (reading m.settings word) (and_true _ _ (and_true _ _ e).0).0)))
 
     -- without a sure On reading they stay
     pub rested_totals_kept : (d : Totals) → (r ≡ On → ⊥) → t ≡ get_or ts i d → ts ≡ set ts i (scan_totals t m word period)
