@@ -6,9 +6,9 @@ use lib.Seq.{take-set-lt}
 use Rattle.words.specs.Word.{when◌then◌else◌}
 use Rattle.rules.specs.declared.Motor.{Motor}
 use Rattle.rules.specs.declared.Settings.{Settings}
-use Rattle.rules.specs.declared.Refusal.{Refusal}
-use Rattle.rules.specs.Numbers.{number_of}
-use Rattle.rules.proofs.Numbers.{number_positive}
+use Rattle.refusals.specs.declared.Refusal.{Refusal}
+use Rattle.refusals.specs.Numbers.{number_of}
+use Rattle.refusals.proofs.Numbers.{number_positive}
 use Rattle.rules.specs.Record.{fresh}
 use Rattle.rules.specs.Refusals.{most_motors, table_refusal, table_after, part_refusal, part_after}
 use Rattle.rules.proofs.Tables.{table_accepted, table_refused, length_after}

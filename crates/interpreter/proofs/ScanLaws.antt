@@ -10,9 +10,9 @@ use Rattle.words.specs.Word.{when◌then◌else◌}
 use Rattle.rules.specs.declared.Motor.{Motor}
 use Rattle.rules.specs.Steps.{reading, step}
 use Rattle.rules.specs.Refusals.{most_motors, in_range, word_ok, period_ok, misfit, one_refusal, table_refusal, part_refusal, part_after}
-use Rattle.rules.specs.declared.Refusal.{Refusal}
-use Rattle.rules.specs.Numbers.{code_of}
-use Rattle.rules.proofs.Numbers.{is_ok-from_zero}
+use Rattle.refusals.specs.declared.Refusal.{Refusal}
+use Rattle.refusals.specs.Numbers.{code_of}
+use Rattle.refusals.proofs.Numbers.{is_ok-from_zero}
 use Rattle.rules.proofs.Range.{one_in_limits}
 use Rattle.rules.proofs.Tables.{list_all_each, one_accepts, accepted, part_front}
 use Rattle.sheet.specs.Grammar.{next_at}

@@ -1,13 +1,14 @@
 // What a request does to a bench: rules 7.5 to 7.8.
 ghost use Rattle.std.specs.Prelude.{◌≡◌, ◌≤◌, ◌-◌, length, IfOk};
-ghost use Rattle.rules.specs.Numbers.{code_of};
+ghost use Rattle.refusals.specs.Numbers.{code_of};
 ghost use Rattle.rules.specs.Refusals.{most_motors, step_all};
 ghost use Rattle.totals.specs.Running.{all_totals};
 ghost use Rattle.interpreter.specs.State.{Acts, empty_state, next_number, motor_refusal, input_refusal, is_there, refusal_for, view_of, held_of, too_long};
 ghost use Rattle.sheet.specs.declared.Request.TheVariants.{Motor as M, Input as I, Scan as S};
 
 use crate::Bench;
-use rules::{Motor, Refusal, Settings};
+use refusals::Refusal;
+use rules::{Motor, Settings};
 use sheet::Request;
 use status::switches::read;
 use table::MOST_MOTORS;

@@ -5,12 +5,13 @@
 ghost use Rattle.std.specs.Prelude.{◌≡◌};
 ghost use Rattle.std.specs.Result.{result_unwrap_or};
 ghost use Rattle.rules.specs.Record.{fresh};
-ghost use Rattle.rules.specs.Numbers.{code_of};
+ghost use Rattle.refusals.specs.Numbers.{code_of};
 ghost use Rattle.rules.specs.Sheets.{AreRight, given_sheets};
 ghost use Rattle.rules.specs.OwnSheets.{own_sheets};
 ghost use Rattle.rules.specs.Refusals.{settings_in_range, status_in_range, output_in_range, in_range, period_ok, word_ok, one_refusal, one_after};
 
-use rules::{Motor, Output, Refusal, Settings, Status};
+use refusals::Refusal;
+use rules::{Motor, Output, Settings, Status};
 
 mod output;
 mod resting;

@@ -3,10 +3,11 @@
 #![tactic(auto)]
 
 ghost use Rattle.std.specs.Prelude.{◌≡◌};
-ghost use Rattle.rules.specs.Numbers.{code_of};
+ghost use Rattle.refusals.specs.Numbers.{code_of};
 ghost use Rattle.rules.specs.Refusals.{one_refusal, one_after, table_refusal, table_after};
 
-use rules::{Motor, Refusal};
+use refusals::Refusal;
+use rules::Motor;
 
 fn code_of(scanned: Result<(), Refusal>) -> u32
     ensures { result ≡ code_of scanned }

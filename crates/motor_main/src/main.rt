@@ -7,7 +7,8 @@ ghost use Rattle.rules.specs.Record.{fresh};
 ghost use Rattle.rules.specs.Refusals.{one_after};
 
 use motor::{accept, scan};
-use rules::{Motor, Refusal, Settings};
+use refusals::Refusal;
+use rules::{Motor, Settings};
 
 // A fresh motor with the settings of the sheets after three scans.
 fn after_three(a: u32, b: u32, c: u32, period: u32) -> Motor

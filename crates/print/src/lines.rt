@@ -10,8 +10,9 @@ ghost use Rattle.print.specs.Course.{print_walk, print_laws};
 use crate::Sitting;
 use course::Course;
 use interpreter::{Bench, is_too_long, next_number};
+use refusals::Refusal;
 use report::{Page, TotalsRow};
-use rules::{Motor, Refusal};
+use rules::Motor;
 use sheet::next_request;
 use totals::Totals;
 

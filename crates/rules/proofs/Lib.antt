@@ -3,5 +3,5 @@ pub mod Flags
 pub mod Tables
 pub mod Quiet
 pub mod Resting
-pub mod Numbers
+pub mod Options
 pub mod Sheets

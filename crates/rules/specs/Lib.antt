@@ -7,4 +7,3 @@ pub mod Opened
 pub mod Sheets
 pub mod OwnSheets
 pub mod Refused
-pub mod Numbers

@@ -1,6 +1,6 @@
 // The request that a line makes: rule 7.2.
 ghost use Rattle.std.specs.Prelude.{◌≡◌, unwrap_or};
-ghost use Rattle.rules.specs.Numbers.{code_of};
+ghost use Rattle.refusals.specs.Numbers.{code_of};
 ghost use Rattle.sheet.specs.declared.Request.TheVariants.{Refused};
 ghost use Rattle.sheet.specs.Grammar.{motor_of, input_of, scan_of, request_of, next_at, request_refusal};
 
@@ -9,7 +9,7 @@ use crate::lines::{next_line, part};
 use crate::numbers::read_number;
 use crate::word_fields::read_word;
 use crate::{Line, Request};
-use rules::Refusal;
+use refusals::Refusal;
 
 // The first field of a line of each kind.
 const MOTOR: u8 = b'M';

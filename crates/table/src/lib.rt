@@ -5,11 +5,12 @@
 ghost use Rattle.std.specs.Prelude.{◌≡◌};
 ghost use Rattle.std.specs.List.{list_all};
 ghost use Rattle.std.specs.Result.{result_unwrap_or};
-ghost use Rattle.rules.specs.Numbers.{code_of};
+ghost use Rattle.refusals.specs.Numbers.{code_of};
 ghost use Rattle.rules.specs.Refused.{AreGiven, cases};
 ghost use Rattle.rules.specs.Refusals.{misfit, in_range, word_ok, one_refusal, one_after, table_refusal, step_all, table_after, part_refusal, part_after};
 
-use rules::{Motor, Refusal};
+use refusals::Refusal;
+use rules::Motor;
 
 // The most records that a table may have.
 pub const MOST_MOTORS: usize = 32;

@@ -5,10 +5,11 @@
 ghost use Rattle.std.specs.Prelude.{◌≡◌, true, replicate, eqb};
 ghost use Rattle.std.specs.Result.{result_unwrap_or};
 ghost use Rattle.rules.specs.Record.{fresh};
-ghost use Rattle.rules.specs.Numbers.{code_of, number_of};
+ghost use Rattle.refusals.specs.Numbers.{code_of, number_of};
 ghost use Rattle.rules.specs.Refusals.{part_refusal, part_after};
 
-use rules::{Motor, Refusal, Settings};
+use refusals::Refusal;
+use rules::{Motor, Settings};
 use table::MOST_MOTORS;
 
 // The first `count` of 32 motors with the settings of the sheets in docs/RULES.md but for OPS_1, fresh, through one scan.
@@ -37,7 +38,7 @@ fn scan_fresh(
 
 // A full table: the first motor and the last are scanned. A function for each table, since each looks at other motors, and by `match`: tried
 // with `is_ok_and`, of whose closure the check computes nothing.
-#[tactic(auto, using(rules::proofs::Numbers::number_positive), unfolding(rules::specs::Opened::opened))]
+#[tactic(auto, using(refusals::proofs::Numbers::number_positive), unfolding(rules::specs::Opened::opened))]
 fn full() -> bool
     ensures { result ≡ true }
 {
@@ -48,7 +49,7 @@ fn full() -> bool
 }
 
 // Part of one: the motor past it stays.
-#[tactic(auto, using(rules::proofs::Numbers::number_positive), unfolding(rules::specs::Opened::opened))]
+#[tactic(auto, using(refusals::proofs::Numbers::number_positive), unfolding(rules::specs::Opened::opened))]
 fn part() -> bool
     ensures { result ≡ true }
 {
@@ -59,7 +60,7 @@ fn part() -> bool
 }
 
 // No motor at all.
-#[tactic(auto, using(rules::proofs::Numbers::number_positive), unfolding(rules::specs::Opened::opened))]
+#[tactic(auto, using(refusals::proofs::Numbers::number_positive), unfolding(rules::specs::Opened::opened))]
 fn empty() -> bool
     ensures { result ≡ true }
 {

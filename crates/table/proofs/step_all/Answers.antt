@@ -2,7 +2,7 @@ use Rattle.std.proofs.Common.{◌≡◌, ◌∙◌, sym, ℕ, ◌<◌, ◌+◌, 
 use lib.Seq.{take_all}
 use Rattle.rules.specs.declared.Motor.{Motor}
 use Rattle.rules.specs.Refusals.{one_refusal, one_after, table_refusal, step_all}
-use Rattle.rules.proofs.Numbers.{is_ok-from_zero}
+use Rattle.refusals.proofs.Numbers.{is_ok-from_zero}
 use Rattle.rules.proofs.Tables.{accepted, each_accepted, none_stepped, not_yet, one_more, one_accepted}
 use Rattle.table.proofs.step_all.Goals as goal
 

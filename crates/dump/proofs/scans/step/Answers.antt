@@ -1,5 +1,5 @@
 use Rattle.std.proofs.Common.{◌∙◌}
-use Rattle.rules.proofs.Numbers.{is_ok-from_zero}
+use Rattle.refusals.proofs.Numbers.{is_ok-from_zero}
 use Rattle.dump.proofs.scans.step.Goals as goal
 
 pub unwrap-requires : goal.unwrap-requires

@@ -1,7 +1,7 @@
 -- The numbers of the refusals: rule 4.2.
 use Rattle.std.specs.Prelude.{ℕ, Result, Ok, Err}
-use Rattle.rules.specs.declared.Refusal.{Refusal}
-use Rattle.rules.specs.declared.Refusal.TheVariants.{Size, Period, Word, Setting, Line, Record, Full, Scanned, Number, Absent}
+use Rattle.refusals.specs.declared.Refusal.{Refusal}
+use Rattle.refusals.specs.declared.Refusal.TheVariants.{Size, Period, Word, Setting, Line, Record, Full, Scanned, Number, Absent}
 
 abbrev pub number_of : Refusal → ℕ
 number_of Size = 1
