@@ -3,3 +3,4 @@ pub mod Runs
 pub mod Pieces
 pub mod Written
 pub mod DotsLaws
+pub mod WrittenBack

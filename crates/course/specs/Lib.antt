@@ -1,3 +1,4 @@
 pub mod Through
 pub mod Walk
 pub mod Dots
+pub mod Written

@@ -13,7 +13,7 @@ use Rattle.book.proofs.Periods.{period_limits}
 use Rattle.sheet.specs.declared.Request.{Request}
 use Rattle.sheet.specs.declared.Request.TheVariants.{Motor as M, Input as I, Scan as S, Refused}
 use Rattle.sheet.specs.Grammar.{requests_of}
-use Rattle.sheet.specs.Number.{largest}
+use Rattle.octets.specs.Number.{largest}
 use Rattle.sheet.proofs.MoreLines.{few_requests}
 use Rattle.interpreter.specs.State.{State, empty_state, scan_refusal, with_scan, refusal_for, changed, too_long}
 use Rattle.interpreter.specs.Histories.{histories_of}

@@ -3,9 +3,9 @@
 #![tactic(auto)]
 
 ghost use Rattle.std.specs.Prelude.{◌≡◌, length, unwrap_or};
-ghost use Rattle.sheet.specs.Lines.{found_lf};
+ghost use Rattle.octets.specs.Split.{found_lf};
 
-use sheet::{LF, find_lf, index_from};
+use octets::{LF, find_lf, index_from};
 
 // The first LF at or after a place, as the bench finds it.
 pub fn first_lf(file: &[u8], at: usize) -> usize

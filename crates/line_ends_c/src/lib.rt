@@ -3,7 +3,7 @@
 #![tactic(auto)]
 
 ghost use Rattle.std.specs.Prelude.{◌≡◌, length, unwrap_or};
-ghost use Rattle.sheet.specs.Lines.{found_lf};
+ghost use Rattle.octets.specs.Split.{found_lf};
 
 // The first LF at or after a place, as the bench finds it.
 #[unsafe(no_mangle)]

@@ -5,7 +5,7 @@ use mathlib.Core.Bool.{Bool, true, false}
 use mathlib.Core.List.{List, [], ◌∷◌, ◌++◌, append_assoc, append-nil}
 use lib.Dec.{eqb}
 use borrow.Author.Tests.{eqb-true, eqb-false}
-use Rattle.sheet.specs.Split.{LF}
+use Rattle.octets.specs.Split.{LF}
 use Rattle.sheet.specs.Grammar.{requests_of}
 use Rattle.sheet.specs.declared.Request.{Request}
 use Rattle.sheet.proofs.MoreLines.{before, requests_more, requests_whole}

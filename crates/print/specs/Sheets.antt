@@ -1,7 +1,7 @@
 -- Whole files with their whole prints, computed from the definitions. The program's `run` ensures them (AreRight).
 use Rattle.std.specs.Prelude.{ℕ, ◌≡◌, codes, List, [], ◌∷◌, ◌++◌, map}
 use Prim.Native.String.{String}
-use Rattle.sheet.specs.Split.{LF}
+use Rattle.octets.specs.Split.{LF}
 use Rattle.print.specs.Print.{print_of}
 
 -- lines of text, each with its LF

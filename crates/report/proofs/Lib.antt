@@ -2,5 +2,4 @@ pub mod PutLaws
 pub mod PrintLaws
 pub mod PageLaws
 pub mod ReadBack
-pub mod WrittenBack
 pub mod Vectors

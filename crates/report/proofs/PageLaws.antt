@@ -12,7 +12,7 @@ use borrow.Author.Tests.{ltb-true, lt-ltb}
 use Rattle.words.proofs.Laws.{and_true}
 use Rattle.std.specs.Int.Bits.{bit_or}
 use Rattle.std.proofs.lemmas.Nat.{le_or_l, le_or_r}
-use Rattle.sheet.specs.Split.{LF, comma}
+use Rattle.octets.specs.Split.{LF, comma}
 use Rattle.report.specs.Print.{decimal, after_comma, after_commas, line_of, letter_r, row_of}
 use Rattle.report.specs.Puts.{Puts}
 use Rattle.report.specs.Store.{Takes, pair_of, states_of, short_states}

@@ -9,7 +9,7 @@ use lib.ListN.{length, drop, get_or, length-append, drop_of_length-le}
 use lib.Seq.{drop-cons}
 use borrow.Author.Tests.{lt-ltb, le-ltb}
 use Rattle.words.specs.Word.{when◌then◌else◌}
-use Rattle.sheet.specs.Split.{LF}
+use Rattle.octets.specs.Split.{LF}
 use Rattle.report.specs.Print.{digits_of, decimal, after_comma, after_commas, line_of, letter_r, letter_e, letter_t, row_of, totals_row_of, refusal_of}
 use Rattle.report.specs.declared.Row.{Row}
 use Rattle.report.specs.declared.TotalsRow.{TotalsRow}

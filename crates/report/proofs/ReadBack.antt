@@ -10,14 +10,12 @@ use lib.ListN.{length, take, get_or, length-append, get_or-append}
 use lib.Seq.{length-take-le}
 use borrow.Author.Tests.{le-leb, lt-leb}
 use Rattle.words.proofs.Laws.{and_true}
-use Rattle.sheet.specs.Split.{index_of}
-use Rattle.sheet.specs.Number.{largest, is_digit, all_digits, value_from, number_of}
-use Rattle.sheet.specs.WordField.{word_of}
+use Rattle.octets.specs.Split.{index_of}
+use Rattle.octets.specs.Number.{largest, is_digit, all_digits, value_from, number_of}
 use Rattle.std.specs.Prelude.{Some}
-use Rattle.sheet.proofs.SplitLaws.{last_byte}
-use Rattle.sheet.proofs.RunLaws.{all_snoc, all_free}
-use Rattle.sheet.proofs.NumberLaws.{value_grows, digit_range, value_more, Spells, spells_number, number_spells}
-use Rattle.sheet.proofs.WordFieldLaws.{number_word}
+use Rattle.octets.proofs.SplitLaws.{last_byte}
+use Rattle.octets.proofs.RunLaws.{all_snoc, all_free}
+use Rattle.octets.proofs.NumberLaws.{value_grows, digit_range, value_more, Spells, spells_number, number_spells}
 use Rattle.report.specs.Print.{digits_of, decimal}
 use Rattle.report.proofs.PrintLaws.{digits_less, digits_more}
 
@@ -127,10 +125,6 @@ digits_spelt (suc k) n s p h =
 pub read_back : (n : ℕ) → n ≤ largest → number_of (decimal n) ≡ Some n
 unfolding decimal
 read_back n h = spells_number (spells_digits 9 n (omega arith)) h
-
--- in a word field too
-pub word_back : (n : ℕ) → n ≤ largest → word_of (decimal n) ≡ Some n
-word_back n h = number_word (decimal n) n (read_back n h)
 
 pub print_back : (field : List ℕ) (n : ℕ) → number_of field ≡ Some n → field ≡ decimal n
 unfolding decimal

@@ -2,5 +2,4 @@ pub mod Put
 pub mod Puts
 pub mod Print
 pub mod Store
-pub mod Written
 pub mod Opened

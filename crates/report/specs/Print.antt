@@ -1,7 +1,7 @@
 -- The lines of the print: rules 8.1 to 8.3. Numbers are printed in decimal.
 use Rattle.std.specs.Prelude.{ℕ, zero, suc, ◌+◌, ◌/◌, ◌%◌, List, [], ◌∷◌, ◌++◌, ltb}
 use Rattle.words.specs.Word.{when◌then◌else◌}
-use Rattle.sheet.specs.Split.{LF, comma}
+use Rattle.octets.specs.Split.{LF, comma}
 use Rattle.report.specs.declared.Row.{Row}
 use Rattle.report.specs.declared.TotalsRow.{TotalsRow}
 

@@ -6,7 +6,7 @@ ghost use Rattle.report.specs.Store.{Fits, Takes, pair_of, states_of, short_stat
 ghost use Rattle.report.specs.Print.{decimal, after_comma, row_of};
 
 use crate::{Page, Row};
-use sheet::{COMMA, LF};
+use octets::{COMMA, LF};
 
 // The longest row: R, eight fields of a comma and ten digits, LF.
 const LONGEST: usize = 90;

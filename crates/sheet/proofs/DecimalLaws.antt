@@ -7,9 +7,9 @@ use mathlib.Core.Bool.{Bool, true, false, ◌||◌, false≢true}
 use mathlib.Core.List.{List}
 use native.Mathlib.Omega.{arith}
 use Rattle.words.specs.Word.{when◌then◌else◌}
-use Rattle.sheet.specs.Split.{field_of}
+use Rattle.octets.specs.Split.{field_of}
 use Rattle.sheet.specs.Lines.{Text, line, faulty}
-use Rattle.sheet.specs.Number.{number_of}
+use Rattle.octets.specs.Number.{number_of}
 use Rattle.sheet.specs.WordField.{has0x, word_of}
 use Rattle.sheet.specs.Grammar.{letter_m, letter_i, is_kind, number_in, word_in, with_value, motor_from, input_from, motor_of, input_of, scan_of, request_of, text_request}
 use Rattle.sheet.specs.DecimalWords.{decimal_motor, decimal_input, decimal_scan, decimal_request, decimal_text, line_has0x, text_has0x}

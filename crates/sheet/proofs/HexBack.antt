@@ -12,11 +12,11 @@ use lib.Dec.{leb, ltb}
 use borrow.Author.Tests.{lt-leb, le-leb, le-ltb, lt-ltb}
 use Rattle.words.specs.Word.{when◌then◌else◌}
 use Rattle.words.proofs.Laws.{and_true, agree_at, both_le}
-use Rattle.sheet.specs.Number.{is_digit}
+use Rattle.octets.specs.Number.{is_digit}
 use Rattle.sheet.specs.WordField.{is_hex_digit, hex_digit, all_hex_digits, hex_from, is_hex_count, hex_number, has0x, word_of, hex_digit_of, hex_digits_of, hexadecimal}
 use Rattle.std.specs.Prelude.{Some}
-use Rattle.sheet.proofs.RunLaws.{all_snoc}
-use Rattle.sheet.proofs.SplitLaws.{last_byte}
+use Rattle.octets.proofs.RunLaws.{all_snoc}
+use Rattle.octets.proofs.SplitLaws.{last_byte}
 use Rattle.sheet.proofs.WordFieldLaws.{digit_small, HexSays, hex_says, hex_field}
 
 -- ---- one digit, both ways

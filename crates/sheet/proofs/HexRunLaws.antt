@@ -11,14 +11,14 @@ use lib.Seq.{drop-drop}
 use lib.Dec.{eqb, leb, ltb}
 use borrow.Author.Tests.{eq-eqb, ne_eqb, le-leb, lt-leb, lt-ltb, le-ltb, ltb-true}
 use Rattle.words.specs.Word.{when◌then◌else◌}
-use Rattle.sheet.specs.Split.{between}
+use Rattle.octets.specs.Split.{between}
 use Rattle.sheet.specs.WordField.{is_hex_digit, hex_digit, all_hex_digits, hex_from, is_hex_count, hex_number, has0x, word_of}
 use Rattle.sheet.specs.Places.{hex_digit_at, hex_run, hex_run_at, SaidAt, Read}
 use Rattle.std.specs.Prelude.{Option, Some, None}
 use Rattle.std.specs.Bool.{then_some}
 use Rattle.std.proofs.lemmas.Option.{none-some, same_Some, some_pair_parts}
-use Rattle.sheet.proofs.RunLaws.{run_all, all_run, run_passes, run_take, run_le, run_here, run_end}
-use Rattle.sheet.proofs.SplitLaws.{between_last}
+use Rattle.octets.proofs.RunLaws.{run_all, all_run, run_passes, run_take, run_le, run_here, run_end}
+use Rattle.octets.proofs.SplitLaws.{between_last}
 use Rattle.sheet.proofs.WordFieldLaws.{digit_small, hex_fits, hex_field}
 
 -- ---- the digit at a place

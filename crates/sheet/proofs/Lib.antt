@@ -1,8 +1,4 @@
-pub mod SplitLaws
-pub mod WordLaws
 pub mod LineLaws
-pub mod RunLaws
-pub mod NumberLaws
 pub mod WordFieldLaws
 pub mod HexRunLaws
 pub mod HexBack

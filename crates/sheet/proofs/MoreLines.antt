@@ -8,11 +8,11 @@ use lib.Dec.{eqb}
 use lib.ListN.{length, length-map}
 use borrow.Author.Tests.{ne_eqb}
 use Rattle.words.specs.Word.{when◌then◌else◌}
-use Rattle.sheet.specs.Split.{LF, split, join_first}
+use Rattle.octets.specs.Split.{LF, split, join_first}
 use Rattle.sheet.specs.Lines.{text_of, texts_of, lines_of}
 use Rattle.sheet.specs.Grammar.{text_request, requests_of}
 use Rattle.sheet.specs.declared.Request.{Request}
-use Rattle.sheet.proofs.SplitLaws.{parts_pos, split_more}
+use Rattle.octets.proofs.SplitLaws.{parts_pos, split_more}
 use Rattle.sheet.proofs.LineLaws.{texts_more}
 
 -- ---- the lines before an LF, and those after it

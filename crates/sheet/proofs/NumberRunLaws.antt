@@ -12,13 +12,13 @@ use Rattle.std.specs.Prelude.{Option, Some, None}
 use Rattle.std.specs.Bool.{then_some}
 use Rattle.std.proofs.lemmas.Option.{none-some, some_pair_parts}
 use Rattle.words.specs.Word.{when◌then◌else◌}
-use Rattle.sheet.specs.Split.{between}
-use Rattle.sheet.specs.Number.{largest, is_digit, value_from, number_of}
+use Rattle.octets.specs.Split.{between}
+use Rattle.octets.specs.Number.{largest, is_digit, value_from, number_of}
 use Rattle.sheet.specs.WordField.{word_of}
 use Rattle.sheet.specs.Places.{is_at, is_digit_at, digit_run, number_at, SaidAt, Read}
-use Rattle.sheet.proofs.SplitLaws.{between_last}
-use Rattle.sheet.proofs.RunLaws.{run_all, run_passes, run_take, run_le, run_here, run_end}
-use Rattle.sheet.proofs.NumberLaws.{value_grows, Spells, number_spells}
+use Rattle.octets.proofs.SplitLaws.{between_last}
+use Rattle.octets.proofs.RunLaws.{run_all, run_passes, run_take, run_le, run_here, run_end}
+use Rattle.octets.proofs.NumberLaws.{value_grows, Spells, number_spells}
 use Rattle.sheet.proofs.PlaceLaws.{DigitAt, Digits, byte_at, zero_number, digits_said, number_read}
 
 -- ---- the digits read so far

@@ -11,9 +11,9 @@ use lib.Dec.{eqb, leb, ltb}
 use borrow.Author.Tests.{eq-eqb, eqb-true, lt-ltb, ltb-true, ltb-false}
 use Rattle.words.proofs.Laws.{and_true}
 use Rattle.words.specs.Word.{when◌then◌else◌}
-use Rattle.sheet.specs.Split.{LF, comma, joined, index_of, between, field_of, field_count}
+use Rattle.octets.specs.Split.{LF, comma, joined, index_of, between, field_of, field_count}
 use Rattle.sheet.specs.Lines.{longest, line, well_sized, text_of, first_line, line_at}
-use Rattle.sheet.specs.Number.{largest, is_digit, all_digits, value_from, digits_number, leading_zero, number_of}
+use Rattle.octets.specs.Number.{largest, is_digit, all_digits, value_from, digits_number, leading_zero, number_of}
 use Rattle.sheet.specs.WordField.{word_of}
 use Rattle.sheet.specs.Grammar.{letter_m, letter_i, letter_s, letter_of, is_kind, number_in, word_in, with_value, motor_from, input_from, scan_from, motor_of, input_of, scan_of, request_of, taken_at, next_at}
 use Rattle.sheet.specs.Places.{is_at, is_digit_at, begins_with, ends_line, SaidAt, Read, NumberRead}
@@ -22,9 +22,9 @@ use Rattle.std.specs.Bool.{then_some}
 use Rattle.std.proofs.lemmas.Option.{none-some, same_Some}
 use Rattle.sheet.specs.declared.Line.TheVariants.{Until}
 use Rattle.sheet.specs.declared.Request.TheVariants.{Motor, Input, Scan}
-use Rattle.sheet.proofs.SplitLaws.{Free, free_none, free_more, split_joined, free_joined}
+use Rattle.octets.proofs.SplitLaws.{Free, free_none, free_more, split_joined, free_joined}
 use Rattle.sheet.proofs.LineLaws.{lines_part}
-use Rattle.sheet.proofs.NumberLaws.{digit_range, first_digit, spells_number}
+use Rattle.octets.proofs.NumberLaws.{digit_range, first_digit, spells_number}
 use Rattle.sheet.proofs.WordFieldLaws.{number_word, word_some, word_free}
 
 -- ---- a byte at a place

@@ -10,7 +10,7 @@ use lib.Dec.{eqb}
 use lib.ListN.{length, drop, get_or, length-take}
 use lib.Seq.{get_or-drop, get_or-take}
 use borrow.Author.Tests.{eqb-true}
-use Rattle.sheet.specs.Split.{comma, index_of, between, field_of}
+use Rattle.octets.specs.Split.{comma, index_of, between, field_of}
 use Rattle.sheet.specs.Lines.{Text, faulty, lines_of}
 use Rattle.words.specs.Word.{when◌then◌else◌}
 use Rattle.words.proofs.Laws.{and_true}
@@ -20,7 +20,7 @@ use Rattle.std.proofs.lemmas.Option.{none-some, some_pair_parts}
 use Rattle.sheet.specs.declared.Line.{Line}
 use Rattle.sheet.specs.declared.Request.{Request}
 use Rattle.sheet.specs.declared.Request.TheVariants.{Motor, Input, Scan, Refused}
-use Rattle.sheet.proofs.SplitLaws.{first_field}
+use Rattle.octets.proofs.SplitLaws.{first_field}
 use Rattle.sheet.proofs.LineLaws.{lines_end, Whole, Stands, whole, refused, ended, stands}
 
 -- past the end there is no request

@@ -1,16 +1,13 @@
--- The file of sheets/first.txt, the borders of refusal 5, words in both notations and the traps of the search for LF, by computing. Assumes nothing.
-use Prim.Native.Nat.{ℕ, ◌+◌, ◌*◌}
+-- The file of sheets/first.txt, the borders of refusal 5, words in both notations, by computing. Assumes nothing.
+use Prim.Native.Nat.{ℕ}
 use mathlib.Core.Path.{◌≡◌, refl}
 use mathlib.Core.List.{List, [], ◌∷◌, ◌++◌}
 use lib.ListN.{replicate}
-use Rattle.sheet.specs.Split.{LF}
-use Rattle.sheet.specs.WordBytes.{bytes_of}
-use Rattle.sheet.specs.Number.{number_of}
+use Rattle.octets.specs.Number.{number_of}
 use Rattle.sheet.specs.WordField.{word_of}
 use Rattle.sheet.specs.Lines.{line_at}
 use Rattle.sheet.specs.Grammar.{request_of, requests_of}
 use Rattle.sheet.specs.Opened.{opened}
-use Rattle.sheet.proofs.WordLaws.{each_byte, marks}
 use Rattle.sheet.specs.declared.Line.TheVariants.{Until, Refused as Faulty}
 use Rattle.std.specs.Prelude.{Some, None}
 use Rattle.sheet.specs.declared.Request.TheVariants.{Motor, Input, Scan, Refused}
@@ -216,34 +213,3 @@ hex_input_number = refl
 hex_period : request_of (83 ∷ 44 ∷ 48 ∷ 120 ∷ 54 ∷ 52 ∷ []) ≡ Refused
 unfolding opened
 hex_period = refl
-
--- ---- the word test's traps: which bytes it takes for LF
-
--- eight bytes as one word, the first the lowest
-word : List ℕ → ℕ
-word [] = 0
-word (b ∷ bs) = word bs * 256 + b
-
--- what the test makes of each byte: 127 where it takes it for LF, otherwise 255
-marked : List ℕ → List ℕ
-marked bs = bytes_of 8 (marks (each_byte 8 LF) (each_byte 8 127) (word bs))
-
--- 0x0B after LF, and before it
-lf_and_next : marked (10 ∷ 11 ∷ 10 ∷ 11 ∷ 11 ∷ 11 ∷ 11 ∷ 10 ∷ []) ≡ 127 ∷ 255 ∷ 127 ∷ 255 ∷ 255 ∷ 255 ∷ 255 ∷ 127 ∷ []
-unfolding marked word each_byte bytes_of
-lf_and_next = refl
-
--- 0x8A, which is LF but for its highest bit, beside LF
-lf_with_high_bit : marked (138 ∷ 138 ∷ 138 ∷ 10 ∷ 138 ∷ 138 ∷ 138 ∷ 138 ∷ []) ≡ 255 ∷ 255 ∷ 255 ∷ 127 ∷ 255 ∷ 255 ∷ 255 ∷ 255 ∷ []
-unfolding marked word each_byte bytes_of
-lf_with_high_bit = refl
-
--- 0xFF and 0, which carry and borrow most, around LF and around its neighbours 9 and 11
-carries : marked (255 ∷ 10 ∷ 255 ∷ 9 ∷ 255 ∷ 11 ∷ 0 ∷ 10 ∷ []) ≡ 255 ∷ 127 ∷ 255 ∷ 255 ∷ 255 ∷ 255 ∷ 255 ∷ 127 ∷ []
-unfolding marked word each_byte bytes_of
-carries = refl
-
--- bytes that differ from LF in one bit each
-one_bit_off : marked (11 ∷ 8 ∷ 14 ∷ 2 ∷ 26 ∷ 42 ∷ 74 ∷ 138 ∷ []) ≡ replicate 8 255
-unfolding marked word each_byte bytes_of
-one_bit_off = refl

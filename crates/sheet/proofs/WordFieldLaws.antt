@@ -12,14 +12,14 @@ use lib.Dec.{eqb, leb, lit<}
 use borrow.Author.Tests.{lt-leb, ne_eqb, eqb-true}
 use Rattle.words.specs.Word.{when◌then◌else◌}
 use Rattle.words.proofs.Laws.{and_true, both_le}
-use Rattle.sheet.specs.Split.{index_of}
-use Rattle.sheet.specs.Number.{is_digit, number_of}
+use Rattle.octets.specs.Split.{index_of}
+use Rattle.octets.specs.Number.{is_digit, number_of}
 use Rattle.sheet.specs.WordField.{is_hex_digit, hex_digit, all_hex_digits, hex_from, is_hex_count, hex_number, has0x, word_of}
 use Rattle.std.specs.Prelude.{Some}
 use Rattle.std.specs.Bool.{then_some}
 use Rattle.std.specs.List.{slice_range}
-use Rattle.sheet.proofs.RunLaws.{all_free}
-use Rattle.sheet.proofs.NumberLaws.{number_spells}
+use Rattle.octets.proofs.RunLaws.{all_free}
+use Rattle.octets.proofs.NumberLaws.{number_spells}
 
 -- ---- digits
 

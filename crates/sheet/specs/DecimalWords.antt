@@ -2,7 +2,7 @@
 -- (print/specs/DecimalWords.antt).
 use Rattle.std.specs.Prelude.{ℕ, Bool, false, ◌||◌, List, map}
 use Rattle.words.specs.Word.{when◌then◌else◌}
-use Rattle.sheet.specs.Split.{field_of}
+use Rattle.octets.specs.Split.{field_of}
 use Rattle.sheet.specs.Lines.{Text, line, faulty, lines_of}
 use Rattle.sheet.specs.WordField.{has0x}
 use Rattle.sheet.specs.Grammar.{letter_m, letter_i, letter_s, is_kind, number_in, motor_from, input_from, scan_from}

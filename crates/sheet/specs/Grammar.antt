@@ -1,9 +1,9 @@
 -- The request that a line makes, and the requests of a whole file: rule 7.2, and refusal 5.
 use Rattle.std.specs.Prelude.{ℕ, ◌+◌, Bool, ◌&&◌, List, [], ◌∷◌, map, length, get_or, eqb, Option, Some, None}
 use Rattle.words.specs.Word.{when◌then◌else◌}
-use Rattle.sheet.specs.Split.{field_of, field_count, between}
+use Rattle.octets.specs.Split.{field_of, field_count, between}
 use Rattle.sheet.specs.Lines.{Text, line, faulty, lines_of, line_at}
-use Rattle.sheet.specs.Number.{number_of}
+use Rattle.octets.specs.Number.{number_of}
 use Rattle.sheet.specs.WordField.{word_of}
 use Rattle.sheet.specs.declared.Line.{Line}
 use Rattle.sheet.specs.declared.Line.TheVariants.{Until, Refused as Faulty, End}

@@ -1,13 +1,9 @@
 -- The lines of a file: rule 7.1.
-use Rattle.std.specs.Prelude.{ℕ, ◌+◌, Bool, ◌&&◌, List, [], ◌∷◌, length, drop, eqb, leb, ltb, Option}
+use Rattle.std.specs.Prelude.{ℕ, ◌+◌, Bool, ◌&&◌, List, [], ◌∷◌, length, drop, eqb, leb, ltb}
 use Rattle.words.specs.Word.{when◌then◌else◌}
-use Rattle.sheet.specs.Split.{LF, split, found_byte}
+use Rattle.octets.specs.Split.{LF, split}
 use Rattle.sheet.specs.declared.Line.{Line}
 use Rattle.sheet.specs.declared.Line.TheVariants.{Until, Refused, End}
-
--- The first LF at or after a place, or none
-abbrev pub found_lf : List ℕ → ℕ → Option ℕ
-found_lf file at = found_byte file at LF
 
 -- How many bytes a line may have without LF
 abbrev pub longest : ℕ

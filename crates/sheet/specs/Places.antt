@@ -1,11 +1,12 @@
 -- Bytes and numbers where they stand in a file: what the functions promise that read a line once. The requests that they give are those
 -- of `next_at`; nothing here says more of the file.
-use Rattle.std.specs.Prelude.{ℕ, ◌+◌, ◌-◌, ◌≤◌, ◌≡◌, Bool, true, ◌&&◌, List, [], ◌∷◌, length, drop, get_or, eqb, leb, ltb, Option, Some, None, IfSome}
+use Rattle.std.specs.Prelude.{ℕ, ◌+◌, ◌-◌, ◌≤◌, ◌≡◌, Bool, true, ◌&&◌, List, length, drop, get_or, eqb, leb, ltb, Option, Some, None, IfSome}
 use Rattle.std.specs.Bool.{then_some}
 use Rattle.words.specs.Word.{when◌then◌else◌}
-use Rattle.sheet.specs.Split.{LF, comma, between}
+use Rattle.octets.specs.Split.{LF, comma, between}
 use Rattle.sheet.specs.Lines.{longest}
-use Rattle.sheet.specs.Number.{is_digit, value_from, largest, number_of}
+use Rattle.octets.specs.Runs.{run_of}
+use Rattle.octets.specs.Number.{is_digit, value_from, largest, number_of}
 use Rattle.sheet.specs.WordField.{is_hex_digit, hex_digit, hex_from, is_hex_count}
 use Rattle.sheet.specs.Grammar.{letter_i, next_at}
 use Rattle.sheet.specs.declared.Request.{Request}
@@ -17,11 +18,7 @@ is_at file at b = ltb at (length file) && eqb (get_or file at 0) b
 unfoldable pub is_digit_at : List ℕ → ℕ → Bool
 is_digit_at file at = ltb at (length file) && is_digit (get_or file at 0)
 
--- The bytes that pass a test with which bytes begin, as many as there are
-unfoldable pub run_of : (ℕ → Bool) → List ℕ → List ℕ
-run_of test [] = []
-run_of test (b ∷ bs) = when test b then b ∷ run_of test bs else []
-
+-- The digits with which bytes begin
 abbrev pub digit_run : List ℕ → List ℕ
 digit_run bytes = run_of is_digit bytes
 

@@ -4,7 +4,7 @@ use Rattle.std.specs.Prelude.{ℕ, zero, suc, ◌+◌, ◌-◌, ◌*◌, ◌/◌
 use Rattle.std.specs.Bool.{then_some}
 use Rattle.std.specs.List.{list_all}
 use Rattle.words.specs.Word.{when◌then◌else◌}
-use Rattle.sheet.specs.Number.{is_digit, number_of}
+use Rattle.octets.specs.Number.{is_digit, number_of}
 
 -- A hexadecimal digit: the bytes 48 to 57 are 0 to 9, and 65 to 70 are A to F
 unfoldable pub is_hex_digit : ℕ → Bool

@@ -1,22 +1,18 @@
-// A file for the bench, rule 7: its lines, their fields, the numbers in these, and the requests that lines make. What is read
+// A file for the bench, rule 7: its lines, the numbers in their fields, and the requests that lines make. What is read
 // is defined in specs/, for every list of bytes; every function exported here is equal to its definition on any input.
 // A file and a place in it are two parameters side by side, and no slice from there on, since the answers are places in the file.
 #![tactic(auto)]
 
-mod fields;
 mod lines;
 mod numbers;
 mod quick;
 mod requests;
-mod search;
 mod word_fields;
 
-pub use fields::{COMMA, count_fields, field};
-pub use lines::{LF, index_from, next_line, part};
+pub use lines::next_line;
 pub use numbers::read_number;
 pub use quick::{is_at, next_request};
 pub use requests::{accept, parse};
-pub use search::find_lf;
 pub use word_fields::read_word;
 
 // What stands at a place of a file: one of three, which `Option<Result<usize, _>>` would say no plainer.

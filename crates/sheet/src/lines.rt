@@ -1,31 +1,12 @@
 // The lines of a file, found where they stand: rule 7.1.
 ghost use Rattle.std.specs.Prelude.{◌≡◌};
-ghost use Rattle.sheet.specs.Split.{found_byte, between};
 ghost use Rattle.sheet.specs.Lines.{well_sized, line_at};
 
 use crate::Line;
-use crate::search::find_lf;
-
-pub const LF: u8 = b'\n';
+use octets::find_lf;
 
 // How many bytes a line may have without its LF.
 pub const LONGEST: usize = 80;
-
-// The first place from `at` on that has the byte b.
-pub fn index_from(s: &[u8], at: usize, b: u8) -> Option<usize>
-    ensures { result ≡ found_byte s.now at b }
-{
-    let i = s.get(at..)?.iter().position(|x| *x == b)?;
-    Some(at + i)
-}
-
-// The bytes from one place up to another, as many of them as there are.
-pub fn part(s: &[u8], from: usize, to: usize) -> &[u8]
-    ensures { result.now ≡ between from to s.now }
-{
-    let end = to.min(s.len());
-    &s[from.min(end)..end]
-}
 
 // Whether a line of n bytes without LF is neither empty nor too long.
 #[tactic(auto, unfolding(crate::specs::Lines::well_sized))]

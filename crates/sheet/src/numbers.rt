@@ -1,7 +1,7 @@
 // The number that a field says, rule 7.3, and the one that stands at a place of a file.
 ghost use Rattle.std.specs.Prelude.{◌≡◌, ◌-◌, get_or};
 ghost use Rattle.std.specs.Bool.{then_some};
-ghost use Rattle.sheet.specs.Number.{is_digit, number_of};
+ghost use Rattle.octets.specs.Number.{is_digit, number_of};
 ghost use Rattle.sheet.specs.Places.{is_digit_at, number_at};
 
 use crate::quick::is_at;
@@ -10,7 +10,7 @@ use crate::quick::is_at;
 const LARGEST: u64 = 4294967295;
 
 // The value of a decimal digit.
-#[tactic(auto, unfolding(crate::specs::Number::is_digit))]
+#[tactic(auto, unfolding(octets::specs::Number::is_digit))]
 pub fn digit(b: u8) -> Option<u32>
     ensures { result ≡ then_some (is_digit b) (b - 48) }
 {

@@ -8,11 +8,11 @@ ghost use Rattle.sheet.specs.Grammar.{letter_i, letter_s, next_at};
 ghost use Rattle.sheet.specs.Places.{is_at, begins_with, ends_line, Read, ReadsNext};
 
 use crate::Request;
-use crate::fields::COMMA;
-use crate::lines::{LF, LONGEST, part};
+use crate::lines::LONGEST;
 use crate::numbers::number_at;
 use crate::requests::{INPUT, SCAN, request_at};
 use crate::word_fields::{has_0x, hex_run};
+use octets::{COMMA, LF, part};
 
 // Whether a place of a file has this byte.
 #[tactic(auto, unfolding(crate::specs::Places::is_at))]

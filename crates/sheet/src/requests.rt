@@ -4,11 +4,11 @@ ghost use Rattle.refusals.specs.Numbers.{code_of};
 ghost use Rattle.sheet.specs.declared.Request.TheVariants.{Refused};
 ghost use Rattle.sheet.specs.Grammar.{motor_of, input_of, scan_of, request_of, next_at, request_refusal};
 
-use crate::fields::{count_fields, field};
-use crate::lines::{next_line, part};
+use crate::lines::next_line;
 use crate::numbers::read_number;
 use crate::word_fields::read_word;
 use crate::{Line, Request};
+use octets::{count_fields, field, part};
 use refusals::Refusal;
 
 // The first field of a line of each kind.

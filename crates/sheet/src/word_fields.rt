@@ -10,7 +10,7 @@ use crate::numbers::{digit, read_number};
 const MOST_DIGITS: usize = 8;
 
 // The value of a hexadecimal digit. Not by `to_digit(16)`, which takes small letters too.
-#[tactic(auto, unfolding(words::specs::Opened::choices, crate::specs::WordField::is_hex_digit, crate::specs::WordField::hex_digit, crate::specs::Number::is_digit))]
+#[tactic(auto, unfolding(words::specs::Opened::choices, crate::specs::WordField::is_hex_digit, crate::specs::WordField::hex_digit, octets::specs::Number::is_digit))]
 fn hex_digit(b: u8) -> Option<u32>
     ensures { result ≡ then_some (is_hex_digit b) (hex_digit b) }
 {

@@ -11,9 +11,9 @@ use lib.ListN.{length, get_or, length-map}
 use borrow.Author.Tests.{eq-eqb, ne_eqb, le-leb, lt-leb, leb-true, leb-false}
 use Rattle.words.specs.Word.{when◌then◌else◌}
 use Rattle.words.proofs.Laws.{either}
-use Rattle.sheet.specs.Number.{largest, value_from}
-use Rattle.sheet.proofs.NumberLaws.{number_spells}
-use Rattle.sheet.proofs.DecimalLaws.{neither}
+use Rattle.octets.specs.Number.{largest, value_from}
+use Rattle.octets.proofs.NumberLaws.{number_spells}
+use Rattle.std.proofs.lemmas.Bool.{or_parts}
 use Rattle.report.specs.Print.{decimal}
 use Rattle.report.proofs.ReadBack.{read_back}
 use Rattle.vcd.specs.Text.{word_one, word_ms, word_var, word_wire, word_end, code_of, on_name, off_name, wires_from, frame_start, frame_end, header_of, time_line, digit_of, value_line, values_from, differs, change_line, changes_from, timed, opening_of, Sample, samples_text, recording_text}
@@ -300,8 +300,8 @@ not_declared : (code : List ℕ) (i number n : ℕ) → declared (motor_wires i 
 unfolding motor_wires wire_of declared
 not_declared code i number zero e j h l = absurd (omega arith)
 not_declared code i number (suc n) e j h l =
-    let on = neither (same (code_of i) code) _ e in
-    let off = neither (same (code_of (i + 1)) code) _ on.1 in
+    let on = or_parts (same (code_of i) code) _ e in
+    let off = or_parts (same (code_of (i + 1)) code) _ on.1 in
     go (dec_lt j (i + 1)) (dec_lt j (i + 2)) (λ k. not_declared code (i + 2) (number + 1) n off.1 j k (omega arith)) on.0 off.0
   where
     go : Dec (j < i + 1) → Dec (j < i + 2) → (i + 2 ≤ j → same (code_of j) code ≡ false) → same (code_of i) code ≡ false → same (code_of (i + 1)) code ≡ false

@@ -8,7 +8,7 @@ use native.Mathlib.Omega.{arith}
 use lib.ListN.{length, length-append}
 use Rattle.words.specs.Word.{when◌then◌else◌}
 use Rattle.words.proofs.Laws.{either}
-use Rattle.sheet.specs.Split.{joined}
+use Rattle.octets.specs.Split.{joined}
 use Rattle.report.specs.Print.{decimal}
 use Rattle.report.proofs.PrintLaws.{decimal_length}
 use Rattle.vcd.specs.Text.{blank, word_line, word_one, word_var, word_wire, word_end, code_of, on_name, off_name, wire_line, wires_from, frame_start, frame_end, header_of, time_line, value_line, values_from, differs, change_line, changes_from, timed, opening_of}

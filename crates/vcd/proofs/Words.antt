@@ -8,7 +8,7 @@ use native.Mathlib.Omega.{arith}
 use borrow.Author.Tests.{ne_eqb, not-true}
 use Rattle.words.specs.Word.{when◌then◌else◌}
 use Rattle.words.proofs.Laws.{and_true}
-use Rattle.sheet.specs.Split.{LF, joined, join_first}
+use Rattle.octets.specs.Split.{LF, joined, join_first}
 use Rattle.report.specs.Print.{digits_of, decimal}
 use Rattle.report.proofs.PrintLaws.{digits_less, digits_more}
 use Rattle.vcd.specs.Text.{blank, word_line, word_timescale, word_one, word_ms, word_scope, word_module, word_bench, word_var, word_wire, word_upscope, word_enddefinitions, word_end, code_of, on_name, off_name, wire_line, wires_from, frame_start, frame_end, time_line, digit_of, value_line}

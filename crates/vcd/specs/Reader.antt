@@ -3,8 +3,8 @@
 -- not ask about sections.
 use Rattle.std.specs.Prelude.{ℕ, ◌-◌, Bool, true, false, not, ◌&&◌, ◌||◌, List, [], ◌∷◌, eqb, leb, get_or, take}
 use Rattle.words.specs.Word.{when◌then◌else◌}
-use Rattle.sheet.specs.Split.{join_first}
-use Rattle.sheet.specs.Number.{value_from}
+use Rattle.octets.specs.Split.{join_first}
+use Rattle.octets.specs.Number.{value_from}
 
 -- $timescale
 abbrev pub scale_word : List ℕ

@@ -2,7 +2,7 @@
 use Rattle.std.specs.Prelude.{ℕ, zero, suc, ◌+◌, Bool, not, List, [], ◌∷◌, ◌++◌}
 use Rattle.std.specs.Bool.{beq}
 use Rattle.words.specs.Word.{when◌then◌else◌}
-use Rattle.sheet.specs.Split.{LF, joined}
+use Rattle.octets.specs.Split.{LF, joined}
 use Rattle.report.specs.Print.{decimal}
 
 -- A line: its words, with a blank between each two, and an LF

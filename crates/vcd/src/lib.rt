@@ -7,8 +7,8 @@ ghost use Rattle.report.specs.Puts.{Puts};
 ghost use Rattle.vcd.specs.Wires.{name_of};
 ghost use Rattle.vcd.specs.Text.{wire_line, frame_start, frame_end, time_line, digit_of, value_line};
 
+use octets::LF;
 use report::Page;
-use sheet::LF;
 
 // The two outputs of a motor.
 #[derive(Clone, Copy, Debug, PartialEq, Eq)]

@@ -1,4 +1,4 @@
-use Rattle.sheet.specs.Split.{joined}
+use Rattle.octets.specs.Split.{joined}
 use Rattle.report.proofs.PutLaws.{puts_then}
 use Rattle.vcd.specs.Text.{word_line, time_line}
 use Rattle.vcd.proofs.put_time.Goals as goal

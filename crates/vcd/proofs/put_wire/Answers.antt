@@ -1,5 +1,5 @@
 use Rattle.std.proofs.Common.{[], ◌∷◌}
-use Rattle.sheet.specs.Split.{joined}
+use Rattle.octets.specs.Split.{joined}
 use Rattle.report.proofs.PutLaws.{puts_then}
 use Rattle.vcd.specs.Text.{on_name, off_name}
 use Rattle.vcd.proofs.TextLaws.{wire_start, wire_parts}

@@ -1,7 +1,8 @@
 use mathlib.Core.Path.{◌∙◌, sym}
 use native.Mathlib.Omega.{arith}
-use Rattle.sheet.specs.Split.{LF}
-use Rattle.sheet.proofs.LineLaws.{found_place, line_end, line_open, line_whole, line_faulty}
+use Rattle.octets.specs.Split.{LF}
+use Rattle.octets.proofs.SearchLaws.{found_place}
+use Rattle.sheet.proofs.LineLaws.{line_end, line_open, line_whole, line_faulty}
 use Rattle.sheet.proofs.lines.next_line.Goals as goal
 
 pub returns-then-file-at : goal.returns-then-file-at

@@ -1,6 +1,6 @@
 use mathlib.Core.Path.{◌∙◌, sym}
 use native.Mathlib.Omega.{arith}
-use Rattle.sheet.specs.Split.{comma}
+use Rattle.octets.specs.Split.{comma}
 use Rattle.sheet.specs.Grammar.{letter_i}
 use Rattle.sheet.specs.Places.{Read, NumberRead}
 use Rattle.sheet.proofs.PlaceLaws.{byte_at, number_said, parted, begun_inside, ended_inside, input_next}

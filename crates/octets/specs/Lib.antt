@@ -1,0 +1,4 @@
+pub mod Split
+pub mod WordBytes
+pub mod Runs
+pub mod Number
