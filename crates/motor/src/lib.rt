@@ -11,6 +11,7 @@ ghost use Rattle.rules.specs.OwnSheets.{own_sheets};
 ghost use Rattle.rules.specs.Refusals.{settings_in_range, status_in_range, output_in_range, in_range, period_ok, word_ok, one_refusal, one_after};
 
 use refusals::Refusal;
+use rules::names::mode;
 use rules::{Motor, Output, Settings, Status};
 
 mod output;
@@ -18,9 +19,6 @@ mod resting;
 mod steps;
 
 pub use resting::{is_resting, rest};
-
-// The mode of a motor that is not scanned yet.
-const WORK: u32 = 2;
 
 // The limits of the settings, of the record, of a period and of an input word.
 const OPS1_MAX: u32 = 65535;
@@ -42,7 +40,7 @@ pub fn fresh(s: Settings) -> Motor
     ensures { result ≡ fresh s }
 {
     let status = Status {
-        mode: WORK,
+        mode: mode::WORK,
         ..Default::default()
     };
     Motor {

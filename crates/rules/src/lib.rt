@@ -2,6 +2,8 @@
 // definitions in specs/; the functions are in the crates above.
 #![tactic(auto)]
 
+pub mod names;
+
 // OPS_1, OPS_2, the monitoring time W and the pulse time U, in milliseconds.
 #[derive(Clone, Copy, Debug, Default, PartialEq, Eq)]
 #[repr(C)]

@@ -5,6 +5,7 @@ ghost use Rattle.std.specs.Prelude.{◌≡◌};
 ghost use Rattle.rules.specs.Record.{direction, is_on, is_off, is_mu, is_ko, input_bit, risen, command_risen};
 
 use rules::Status;
+use rules::names::{command, position};
 use words::{has, masked_out};
 
 // Direction, 1 off or 2 on, and input bit, by number, in constant arrays. No command has direction 0 and bit 32, which is
@@ -30,27 +31,27 @@ pub fn input_bit(c: u32) -> u32
 pub fn is_on(c: u32) -> bool
     ensures { result ≡ is_on c }
 {
-    direction_of(c) == 2
+    direction_of(c) == position::ON
 }
 
 pub fn is_off(c: u32) -> bool
     ensures { result ≡ is_off c }
 {
-    direction_of(c) == 1
+    direction_of(c) == position::OFF
 }
 
 // A command of the local panel.
 pub fn is_local(c: u32) -> bool
     ensures { result ≡ is_mu c }
 {
-    (c == 4) | (c == 5)
+    (c == command::MU_OFF) | (c == command::MU_ON)
 }
 
 // A command of the operator.
 pub fn is_operator(c: u32) -> bool
     ensures { result ≡ is_ko c }
 {
-    (c == 6) | (c == 7)
+    (c == command::KO_OFF) | (c == command::KO_ON)
 }
 
 // The risen word: the bits that are 1 in the word and 0 in the previous one. Whatever goes by a rise goes by it.

@@ -8,6 +8,7 @@ ghost use Rattle.rules.specs.Steps.{confirms, confirmed, overdue, ended, end4, f
 
 use crate::command::direction_of;
 use crate::switches::position_read;
+use rules::names::{command, end, flag};
 use rules::{Reading, Status};
 use words::{choose, with_bit};
 
@@ -21,14 +22,14 @@ pub fn is_confirming(r: Reading, c: u32) -> bool
 pub fn is_confirmed(v: Status, r: Reading) -> bool
     ensures { result ≡ confirmed v r }
 {
-    (v.command != 0) & is_confirming(r, v.command)
+    (v.command != command::NONE) & is_confirming(r, v.command)
 }
 
 // up: whether the monitoring time is up.
 pub fn is_overdue(v: Status, r: Reading, up: bool) -> bool
     ensures { result ≡ overdue v r up }
 {
-    (v.command != 0) & !is_confirming(r, v.command) & up
+    (v.command != command::NONE) & !is_confirming(r, v.command) & up
 }
 
 // The flags with the one of an overdue command c set.
@@ -36,7 +37,7 @@ pub fn with_overdue(flags: u32, c: u32) -> u32
     ensures { result ≡ with_bit (overdue_flag c) flags }
 {
     if c < 26 {
-        with_bit(flags, 6 + c)
+        with_bit(flags, flag::OVERDUE + c)
     } else {
         flags
     }
@@ -52,8 +53,8 @@ pub fn is_ended(v: Status, r: Reading, up: bool) -> bool
 pub fn end_now(v: Status, r: Reading, up: bool) -> u32
     ensures { result ≡ end4 v r up }
 {
-    let late = choose(is_overdue(v, r, up), 3, v.end);
-    choose(is_confirmed(v, r), 1, late)
+    let late = choose(is_overdue(v, r, up), end::OVERDUE, v.end);
+    choose(is_confirmed(v, r), end::CONFIRMED, late)
 }
 
 pub fn flags_now(v: Status, r: Reading, up: bool) -> u32
@@ -70,7 +71,7 @@ pub fn end_command(v: Status, r: Reading, up: bool) -> Status
     ensures { result ≡ status4 v r up }
 {
     Status {
-        command: choose(is_ended(v, r, up), 0, v.command),
+        command: choose(is_ended(v, r, up), command::NONE, v.command),
         end: end_now(v, r, up),
         flags: flags_now(v, r, up),
         ..v

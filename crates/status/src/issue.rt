@@ -5,6 +5,7 @@ ghost use Rattle.std.specs.Prelude.{◌≡◌};
 ghost use Rattle.rules.specs.Steps.{flags9, turns_to_work, issue_status, status10};
 
 use crate::command::is_on;
+use rules::names::{command, end, flag, mode, ops1};
 use rules::{Settings, Status};
 use words::{choose, has, masked_out, with_bit, without_bit};
 
@@ -18,12 +19,12 @@ pub fn issue_flags(c: u32, flags: u32) -> u32
     let f = choose(
         is_on(c),
         masked_out(flags, OFF_FLAGS),
-        without_bit(flags, 4),
+        without_bit(flags, flag::ON_BY_LZ),
     );
     match c {
-        1 => with_bit(f, 6),
-        2 => with_bit(f, 5),
-        3 => with_bit(f, 4),
+        command::SMA_OFF => with_bit(f, flag::OFF_BY_SMA),
+        command::LZ_OFF => with_bit(f, flag::OFF_BY_LZ),
+        command::LZ_ON => with_bit(f, flag::ON_BY_LZ),
         _ => f,
     }
 }
@@ -31,8 +32,11 @@ pub fn issue_flags(c: u32, flags: u32) -> u32
 pub fn turns_to_work(s: Settings, v: Status, c: u32) -> bool
     ensures { result ≡ turns_to_work s v c }
 {
-    let lz = (c == 3) & has(s.ops1, 8) | (c == 2) & has(s.ops1, 9);
-    (v.mode == 1) & (lz | (c == 7) & has(s.ops1, 10) | (c == 6) & has(s.ops1, 11))
+    let lz = (c == command::LZ_ON) & has(s.ops1, ops1::LZ_ON_TO_WORK)
+        | (c == command::LZ_OFF) & has(s.ops1, ops1::LZ_OFF_TO_WORK);
+    let ko_on = (c == command::KO_ON) & has(s.ops1, ops1::KO_ON_TO_WORK);
+    let ko_off = (c == command::KO_OFF) & has(s.ops1, ops1::KO_OFF_TO_WORK);
+    (v.mode == mode::RESERVE) & (lz | ko_on | ko_off)
 }
 
 // The status after issuing c: rule 3.9.
@@ -40,9 +44,9 @@ pub fn issue_status(s: Settings, v: Status, c: u32) -> Status
     ensures { result ≡ issue_status s v c }
 {
     Status {
-        mode: choose(turns_to_work(s, v, c), 2, v.mode),
+        mode: choose(turns_to_work(s, v, c), mode::WORK, v.mode),
         command: c,
-        end: choose(v.command == 0, v.end, 2),
+        end: choose(v.command == command::NONE, v.end, end::DISPLACED),
         flags: issue_flags(c, v.flags),
         ..v
     }

@@ -7,6 +7,7 @@ ghost use Rattle.rules.specs.Record.{commands, command_risen};
 ghost use Rattle.rules.specs.Steps.{modes_risen, mode_asked, reserve_allowed, mode_allowed, mode_changes, status6};
 
 use crate::command::{is_risen, risen};
+use rules::names::{command, flag, input, mode, ops1, position};
 use rules::{Settings, Status};
 use words::{choose, has};
 
@@ -28,7 +29,7 @@ pub fn asked_mode(v: Status, word: u32) -> u32
     ensures { result ≡ mode_asked v word }
 {
     let r = risen(v, word) & MODE_BITS;
-    u32::trailing_zeros(r | LAST_MODE_BIT) - 9
+    u32::trailing_zeros(r | LAST_MODE_BIT) - input::REPAIR
 }
 
 // Whether the bit of any switching command has risen.
@@ -41,20 +42,23 @@ pub fn is_any_risen(v: Status, word: u32) -> bool
 pub fn is_reserve_allowed(s: Settings, v: Status) -> bool
     ensures { result ≡ reserve_allowed s v }
 {
-    (!has(v.flags, 1) | has(s.ops1, 13)) & (!has(v.flags, 0) | has(s.ops1, 14))
+    let fault = has(v.flags, flag::SWITCH_FAULT) & !has(s.ops1, ops1::RESERVE_WITH_FAULT);
+    let unsupplied = has(v.flags, flag::NO_SUPPLY) & !has(s.ops1, ops1::RESERVE_WITHOUT_SUPPLY);
+    !fault & !unsupplied
 }
 
 pub fn is_mode_allowed(s: Settings, v: Status, mode: u32) -> bool
     ensures { result ≡ mode_allowed s v mode }
 {
-    ((mode == 2) | (v.position == 1)) & ((mode != 1) | is_reserve_allowed(s, v))
+    ((mode == mode::WORK) | (v.position == position::OFF))
+        & ((mode != mode::RESERVE) | is_reserve_allowed(s, v))
 }
 
 pub fn is_mode_changing(s: Settings, v: Status, word: u32) -> bool
     ensures { result ≡ mode_changes s v word }
 {
-    let one = !has(word, 1) & is_one_mode_risen(v, word);
-    let quiet = one & (v.command == 0) & !is_any_risen(v, word);
+    let one = !has(word, input::LOCAL_MODE) & is_one_mode_risen(v, word);
+    let quiet = one & (v.command == command::NONE) & !is_any_risen(v, word);
     quiet & is_mode_allowed(s, v, asked_mode(v, word))
 }
 

@@ -5,6 +5,7 @@ ghost use Rattle.std.specs.Prelude.{◌≡◌};
 ghost use Rattle.std.specs.Bool.{then_some};
 ghost use Rattle.rules.specs.Steps.{status1, read_on_switch, pair_read, read_switches, reading, is_sure, position_read, both_closed, flags2, pretended, status2};
 
+use rules::names::{command, end, flag, input, ops1, ops2, position};
 use rules::{Reading, Settings, Status};
 use words::{choose, has, masked_out, with_bit};
 
@@ -17,8 +18,12 @@ pub fn begin(v: Status, word: u32) -> Status
     ensures { result ≡ status1 v word }
 {
     Status {
-        end: 0,
-        flags: choose(has(word, 16), masked_out(v.flags, RESET_FLAGS), v.flags),
+        end: end::NONE,
+        flags: choose(
+            has(word, input::RESET),
+            masked_out(v.flags, RESET_FLAGS),
+            v.flags,
+        ),
         ..v
     }
 }
@@ -27,7 +32,7 @@ pub fn begin(v: Status, word: u32) -> Status
 pub fn read_on_switch(word: u32) -> Reading
     ensures { result ≡ read_on_switch word }
 {
-    if has(word, 4) {
+    if has(word, input::ON_SWITCH) {
         Reading::On
     } else {
         Reading::Off
@@ -50,14 +55,14 @@ pub fn read_pair(on: bool, off: bool) -> Reading
 pub fn read_switches(word: u32) -> Reading
     ensures { result ≡ read_switches word }
 {
-    read_pair(has(word, 4), has(word, 5))
+    read_pair(has(word, input::ON_SWITCH), has(word, input::OFF_SWITCH))
 }
 
 // What the switches read.
 pub fn read(s: Settings, word: u32) -> Reading
     ensures { result ≡ reading s word }
 {
-    if has(s.ops1, 0) {
+    if has(s.ops1, ops1::BOTH_SWITCHES) {
         read_switches(word)
     } else {
         read_on_switch(word)
@@ -69,8 +74,8 @@ pub fn position_read(r: Reading) -> Option<u32>
     ensures { result ≡ then_some (is_sure r) (position_read r) }
 {
     match r {
-        Reading::Off => Some(1),
-        Reading::On => Some(2),
+        Reading::Off => Some(position::OFF),
+        Reading::On => Some(position::ON),
         Reading::BothOpen | Reading::BothClosed => None,
     }
 }
@@ -91,19 +96,20 @@ pub fn both_closed(r: Reading) -> bool
 pub fn change_flags(v: Status, r: Reading) -> u32
     ensures { result ≡ flags2 v r }
 {
-    let idle = v.command == 0;
-    let to_on = idle & (v.sure == 1) & (r == Reading::On);
-    let to_off = idle & (v.sure == 2) & (r == Reading::Off);
-    let off = choose(to_off, with_bit(v.flags, 3), v.flags);
-    choose(to_on, with_bit(v.flags, 2), off)
+    let idle = v.command == command::NONE;
+    let to_on = idle & (v.sure == position::OFF) & (r == Reading::On);
+    let to_off = idle & (v.sure == position::ON) & (r == Reading::Off);
+    let off = choose(to_off, with_bit(v.flags, flag::UNSANCTIONED_OFF), v.flags);
+    choose(to_on, with_bit(v.flags, flag::UNSANCTIONED_ON), off)
 }
 
 // The position where the reading is unsure.
 pub fn pretend(s: Settings, sure: u32) -> u32
     ensures { result ≡ pretended s sure }
 {
-    let fixed = choose(has(s.ops2, 4), 2, 1);
-    choose(!has(s.ops2, 2), 0, choose(!has(s.ops2, 3), sure, fixed))
+    let fixed = choose(has(s.ops2, ops2::PRETENDS_ON), position::ON, position::OFF);
+    let pretended = choose(!has(s.ops2, ops2::PRETENDS_FIXED), sure, fixed);
+    choose(!has(s.ops2, ops2::PRETENDS), position::UNSURE, pretended)
 }
 
 // Rule 3.2.
