@@ -12,7 +12,7 @@ use Rattle.rules.specs.declared.Status.{Status}
 use Rattle.rules.specs.declared.Reading.{Reading}
 use Rattle.rules.specs.declared.Motor.{Motor}
 use Rattle.rules.specs.Record.{end_displaced, idle, fresh, with_mode, with_positions, with_command, with_flags, with_previous, with_status}
-use Rattle.rules.specs.Steps.{status1, reading, status2, overdue, ended, end4, flags4, status4, status5, status6, status7, status9, issue_status, status10, chosen, issues, issued, step3, time_up, step4, issue, step9, status1to6, status7to10, steps1to5, half, close, step}
+use Rattle.rules.specs.Steps.{status1, reading, status2, overdue, ended, end4, flags4, status4, status5, status6, status7, status9, issue_status, status10, chosen, issues, issued, step3, time_up, step4, issue, step9, status1to6, status7to10, steps1to5, to_choice, half, close, step}
 use Rattle.rules.specs.Scans.{Input}
 use Rattle.rules.proofs.Flags.{step9_status}
 use Rattle.book.specs.Log.{Log, none, ◌▸◌, count}
@@ -45,12 +45,12 @@ unfolding step9 issue
 step9_sum m c = if_map (λ (n : Motor). n.sum) (eqb c 0) m (issue m c)
 
 settings_step : (m : Motor) (word p : ℕ) → (step m word p).settings ≡ m.settings
-unfolding step steps1to5 half close with_status step4 step3
+unfolding step steps1to5 half to_choice close with_status step4 step3
 settings_step m word p = step9_settings _ _
 
 status_step : (m : Motor) (word p : ℕ) (s : Settings) (v : Status) → m.settings ≡ s → m.status ≡ v
     → (step m word p).status ≡ status7to10 s (status1to6 s v word (up_of s v m.sum p)) word
-unfolding step steps1to5 half close with_status step4 step3 time_up status1to6 status7to10 up_of idle status2 status1 status7 issued issues with_flags with_positions with_command
+unfolding step steps1to5 half to_choice close with_status step4 step3 time_up status1to6 status7to10 up_of idle status2 status1 status7 issued issues with_flags with_positions with_command
 status_step m word p s v e f = rw (← e, ← f) (ap (λ (v : Status). status10 v word) (step9_status _ _))
 
 sum_step : (m : Motor) (word p : ℕ) (s : Settings) (v : Status) → m.settings ≡ s → m.status ≡ v
@@ -58,7 +58,7 @@ sum_step : (m : Motor) (word p : ℕ) (s : Settings) (v : Status) → m.settings
     ≡ (when eqb (issued_by s (status1to6 s v word (up_of s v m.sum p)) word) 0
     then (when ends_in s v word (up_of s v m.sum p) then 0 else when idle v then m.sum else m.sum + p)
     else 0)
-unfolding step steps1to5 half close with_status step4 step3 time_up status1to6 ends_in up_of idle status2 status1 status7 issued issues with_flags with_positions with_command
+unfolding step steps1to5 half to_choice close with_status step4 step3 time_up status1to6 ends_in up_of idle status2 status1 status7 issued issues with_flags with_positions with_command
 sum_step m word p s v e f = rw (← e, ← f) (step9_sum _ _)
 
 -- ---- the book's status, by its parts

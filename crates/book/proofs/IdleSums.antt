@@ -9,7 +9,7 @@ use Rattle.rules.specs.declared.Output.{Output}
 use Rattle.rules.specs.declared.Motor.{Motor}
 use Rattle.rules.specs.declared.Reading.{Reading}
 use Rattle.rules.specs.Record.{no_command, idle, dropped, fresh, with_mode, with_positions, with_command, with_flags, with_previous, with_status}
-use Rattle.rules.specs.Steps.{status1, status2, running, step3, ended, status4, time_up, drops, step4, status5, status6, status7, raised, without_opposite, output9, issue, step9, status10, steps1to5, half, close, step}
+use Rattle.rules.specs.Steps.{status1, status2, running, step3, ended, status4, time_up, drops, step4, status5, status6, status7, raised, without_opposite, output9, issue, step9, status10, steps1to5, to_choice, half, close, step}
 use Rattle.rules.specs.Scans.{Input}
 use Rattle.book.specs.Log.{Log, none, ◌▸◌}
 use Rattle.book.specs.History.{Entry, record_after, history, record_of}
@@ -60,7 +60,7 @@ unfolding steps1to5 status1 status2 status5 with_command with_positions with_fla
 kept1to5 m word period k = status_kept _ _ refl (kept4 _ _ (kept3 _ period (status_kept m _ refl k)))
 
 kept : (m : Motor) (word period : ℕ) → IdleSums m → IdleSums (step m word period)
-unfolding step half close status6 status7 status10 with_mode with_flags with_previous
+unfolding step half to_choice close status6 status7 status10 with_mode with_flags with_previous
 kept m word period k = status_kept _ _ refl (kept9 _ _ (status_kept _ _ refl (kept1to5 m word period k)))
 
 over_history : (s : Settings) (h : Log Input) → IdleSums (record_of s h)

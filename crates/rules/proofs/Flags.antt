@@ -12,7 +12,7 @@ use Rattle.rules.specs.declared.Status.{Status}
 use Rattle.rules.specs.declared.Motor.{Motor}
 use Rattle.rules.specs.declared.Reading.{Reading}
 use Rattle.rules.specs.Record.{flag, idle, with_mode, with_command, with_flags, with_previous, with_status}
-use Rattle.rules.specs.Steps.{reading, supply_fault, switch_fault, both_closed, closed_fault, put_flag, status5, status6, flags7, status7, flags9, issue_status, status9, issue, step9, status10, status7to10, steps1to5, half, close, issued, issues, step}
+use Rattle.rules.specs.Steps.{reading, supply_fault, switch_fault, both_closed, closed_fault, put_flag, status5, status6, flags7, status7, flags9, issue_status, status9, issue, step9, status10, status7to10, steps1to5, to_choice, half, close, issued, issues, step}
 
 -- ---- setting, clearing and putting
 
@@ -76,7 +76,7 @@ step9_status m c = if_map (λ (n : Motor). n.status) (eqb c 0) m (issue m c)
 
 -- what a scan leaves of a flag after its fifth step
 keeps6to10 : (m : Motor) (word period k : ℕ) → Other k → flag (step m word period).status k ≡ flag (steps1to5 m word period).status k
-unfolding step half close status7to10 with_status issued issues idle status7 with_flags
+unfolding step half to_choice close status7to10 with_status issued issues idle status7 with_flags
 keeps6to10 m word period k o =
     let n = steps1to5 m word period in
     ap (λ (v : Status). flag (status10 v word) k) (step9_status _ _)

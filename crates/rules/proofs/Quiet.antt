@@ -11,7 +11,7 @@ use Rattle.rules.specs.declared.Status.{Status}
 use Rattle.rules.specs.declared.Motor.{Motor}
 use Rattle.rules.specs.Record.{no_command, commands, input_bit, risen, bit_risen, command_risen, idle, with_mode, with_positions, with_command, with_flags, with_status}
 use Rattle.rules.specs.Resting.{idle_status}
-use Rattle.rules.specs.Steps.{status1, reading, status2, step3, step4, status4, end4, flags4, ended, confirmed, overdue, drops, running, status5, modes_risen, mode_changes, status6, acknowledges_off, acknowledges_on, flags7, status7, candidate, first_of, chosen, starts, displaces, issues, issued, step9, status10, steps1to5, half, close}
+use Rattle.rules.specs.Steps.{status1, reading, status2, step3, step4, status4, end4, flags4, ended, confirmed, overdue, drops, running, status5, modes_risen, mode_changes, status6, acknowledges_off, acknowledges_on, flags7, status7, candidate, first_of, chosen, starts, displaces, issues, issued, step9, status10, steps1to5, to_choice, half, close}
 
 module _ (s : Settings) (v : Status) (word : ℕ) (none : risen v word ≡ 0) where
   no_bit : (k : ℕ) → bit_risen v word k ≡ false
@@ -32,7 +32,7 @@ module _ (s : Settings) (v : Status) (word : ℕ) (none : risen v word ≡ 0) wh
 
 pub quiet : (m : Motor) (word period : ℕ) → risen m.status word ≡ 0
     → half m word period ≡ record { motor = steps1to5 m word period; chosen = no_command }
-unfolding half with_status risen
+unfolding half to_choice with_status risen
 quiet m word period none =
     let n = steps1to5 m word period in
     let e : n.status.previous ≡ m.status.previous = unfold steps1to5 with_status step4 step3 status5 status4 status2 status1 with_flags with_command with_positions in refl in

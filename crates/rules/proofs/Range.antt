@@ -18,7 +18,7 @@ use Rattle.rules.specs.declared.Motor.{Motor}
 use Rattle.rules.specs.declared.Reading.{Reading}
 use Rattle.rules.specs.declared.Reading.TheVariants.{Off, On, BothOpen, BothClosed}
 use Rattle.rules.specs.Record.{ops₁, commands, idle, own_output, overdue_flag, fresh_status, dropped, fresh, with_mode, with_positions, with_command, with_flags, with_previous, with_status}
-use Rattle.rules.specs.Steps.{flags1, status1, reading, position_read, flags2, pretended, status2, running, step3, confirmed, overdue, ended, end4, flags4, status4, time_up, pulse_over, drops, step4, put_flag, status5, mode_asked, status6, flags7, status7, chosen, first_of, issued, flags9, issue_status, raised, without_opposite, output9, issue, step9, status10, steps1to5, half, close, step}
+use Rattle.rules.specs.Steps.{flags1, status1, reading, position_read, flags2, pretended, status2, running, step3, confirmed, overdue, ended, end4, flags4, status4, time_up, pulse_over, drops, step4, put_flag, status5, mode_asked, status6, flags7, status7, chosen, first_of, issued, flags9, issue_status, raised, without_opposite, output9, issue, step9, status10, steps1to5, to_choice, half, close, step}
 use Rattle.rules.specs.Refusals.{most_flags, settings_in_range, status_in_range, output_in_range, in_range, period_ok, word_ok, one_refusal, one_after}
 use Rattle.rules.specs.Scans.{Input, scans, SumsFit}
 use Rattle.rules.proofs.Tables.{if_zero}
@@ -231,7 +231,7 @@ keeps1to5 m word period f =
     with_status_lem g (keeps5 s _ word r g.status)
 
 keeps : (m : Motor) (word period : ℕ) → word < 131072 → RecordFits m → RecordFits (step m word period)
-unfolding step half close with_status
+unfolding step half to_choice close with_status
 keeps m word period h f =
     let n = steps1to5 m word period in
     let s = n.settings in

@@ -327,12 +327,15 @@ steps1to5 m word period =
     let m₄ = step4 (step3 m₂ period) r in
     with_status m₄ (status5 s m₄.status word r)
 
+-- Steps 6 and 7, and the choice of step 8
+unfoldable pub to_choice : Motor → ℕ → Half
+to_choice m word =
+    let v₆ = status6 m.settings m.status word in
+    record { motor = with_status m (status7 m.settings v₆ word); chosen = chosen m.settings v₆ word }
+
 -- The first half of a scan: steps 1 to 7, and the choice of step 8
 unfoldable pub half : Motor → ℕ → ℕ → Half
-half m word period =
-    let n = steps1to5 m word period in
-    let v₆ = status6 n.settings n.status word in
-    record { motor = with_status n (status7 n.settings v₆ word); chosen = chosen n.settings v₆ word }
+half m word period = to_choice (steps1to5 m word period) word
 
 -- The second: the rest of step 8, and steps 9 and 10
 unfoldable pub close : Half → ℕ → Motor

@@ -1,8 +1,8 @@
 use Rattle.std.proofs.Common.{◌≡◌, refl, sym, ℕ, Bool, true, false, not, eqb, unwrap_or, eqb-true}
 use Rattle.std.specs.Bool.{then_some}
 use Rattle.rules.specs.Record.{command_of}
-use Rattle.rules.specs.Steps.{half}
-use Rattle.motor.proofs.steps.half.Goals as goal
+use Rattle.rules.specs.Steps.{to_choice}
+use Rattle.motor.proofs.steps.to_choice.Goals as goal
 
 -- the number of a command, 0 for none
 number_back : (k : ℕ) → unwrap_or (command_of k) 0 ≡ k
@@ -13,14 +13,6 @@ number_back k = go (eqb k 0) refl
     go false e = refl
 
 pub returns : goal.returns
-unfolding half
+unfolding to_choice
 returns c =
-    rw (
-      c.with_status.ensures,
-      c.acknowledge.ensures,
-      c.unwrap_or.ensures,
-      c.choice.ensures,
-      c.change_mode-v.ensures,
-      c.first_steps-n.ensures,
-      number_back _,
-    ) refl
+    rw (c.with_status.ensures, c.acknowledge.ensures, c.unwrap_or.ensures, c.choice.ensures, c.change_mode-v.ensures, number_back _) refl
