@@ -20,43 +20,20 @@ extern "C" {
     ) -> u32;
 }
 
-/// A record as the library has it.
-#[repr(C)]
-struct Lent {
-    ops_1: u32,
-    ops_2: u32,
-    wait: u32,
-    pulse: u32,
-    mode: u32,
-    last_sure: u32,
-    position: u32,
-    command: u32,
-    end: u32,
-    flags: u32,
-    previous: u32,
-    sum: u32,
-    output: u32,
-    pulse_sum: u32,
+/// A record as the library has it: fourteen numbers in the order of its source.
+type Lent = [u32; 14];
+
+#[rustfmt::skip]
+fn lent(r: &Record) -> Lent {
+    [r.ops_1, r.ops_2, r.wait, r.pulse, r.mode, r.last_sure, r.position,
+     r.command, r.end, r.flags, r.previous, r.sum, r.output, r.pulse_sum]
 }
 
-impl From<Record> for Lent {
-    #[rustfmt::skip]
-    fn from(record: Record) -> Lent {
-        let Record { ops_1, ops_2, wait, pulse, mode, last_sure, position, .. } = record;
-        let Record { command, sum, end, output, pulse_sum, flags, previous, .. } = record;
-        Lent { ops_1, ops_2, wait, pulse, mode, last_sure, position,
-               command, end, flags, previous, sum, output, pulse_sum }
-    }
-}
-
-impl From<Lent> for Record {
-    #[rustfmt::skip]
-    fn from(lent: Lent) -> Record {
-        let Lent { ops_1, ops_2, wait, pulse, mode, last_sure, position, .. } = lent;
-        let Lent { command, end, flags, previous, sum, output, pulse_sum, .. } = lent;
-        Record { ops_1, ops_2, wait, pulse, mode, last_sure, position,
-                 command, sum, end, output, pulse_sum, flags, previous }
-    }
+#[rustfmt::skip]
+fn given_back(lent: Lent) -> Record {
+    let [ops_1, ops_2, wait, pulse, mode, last_sure, position, command, end, flags, previous, sum, output, pulse_sum] = lent;
+    Record { ops_1, ops_2, wait, pulse, mode, last_sure, position,
+             command, sum, end, output, pulse_sum, flags, previous }
 }
 
 /// Places of word and period among a scan's numbers, behind those of the record.
@@ -64,7 +41,7 @@ const WORD: usize = 14;
 const PERIOD: usize = 15;
 
 /// A scan of one motor, to be asked for.
-#[derive(Clone, Copy, Debug)]
+#[derive(Debug)]
 struct Scan {
     record: Record,
     word: u32,
@@ -75,10 +52,10 @@ struct Scan {
 type Outcome = (u32, Record);
 
 fn proved(scan: &Scan) -> Outcome {
-    let mut lent = Lent::from(scan.record);
+    let mut lent = lent(&scan.record);
     // SAFETY: the record is a variable of this function.
     let number = unsafe { motor_scan(&mut lent, scan.word, scan.period) };
-    (number, lent.into())
+    (number, given_back(lent))
 }
 
 /// The same of the model, and what happened if it is accepted.
@@ -418,12 +395,20 @@ fn shown(numbers: &[(String, u32)]) -> String {
     shown.join(", ")
 }
 
+/// No record in range.
+const BEHIND: Lent = [u32::MAX; 14];
+
 /// The number that comes back from a scan of a table.
 fn compare_table(records: &[Record], words: &[u32], period: u32) -> Result<u32, String> {
-    let mut lent: Vec<Lent> = records.iter().map(|record| Lent::from(*record)).collect();
-    // SAFETY: records and words are vectors, of these lengths.
-    let number = unsafe { table_scan(lent.as_mut_ptr(), lent.len(), words.as_ptr(), words.len(), period) };
-    let found = (number, lent.into_iter().map(Record::from).collect());
+    let mut lent: Vec<Lent> = records.iter().map(lent).collect();
+    // What stands behind the table has to stay.
+    lent.push(BEHIND);
+    // SAFETY: the records are the first of a vector, and the words are a vector of this length.
+    let number = unsafe { table_scan(lent.as_mut_ptr(), records.len(), words.as_ptr(), words.len(), period) };
+    if lent.pop() != Some(BEHIND) {
+        return Err(format!("{records:?}\nwords {words:?}\nperiod {period}\nwrites behind the table"));
+    }
+    let found = (number, lent.into_iter().map(given_back).collect());
     let mut left = records.to_vec();
     let number = scan_table(&mut left, words, period).err().unwrap_or(0);
     let expected = (number, left);

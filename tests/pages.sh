@@ -43,7 +43,7 @@ while IFS='|' read -r _ words settings mark _; do
   { echo "M,1,193,${ops2// /},${wait// /},300"; for word in ${words//,/ }; do printf 'I,1,%s\nS,100\n' "$word"; done; } > "$work/sheet"
   row=$("$program" < "$work/sheet" | grep '^R' | tail -n 1) || true
   case $mark in
-    *output* | *mode*) [[ $mark =~ ([a-z]+)\ ([0-9]+) ]] && marks="${BASH_REMATCH[1]} ≔ ${BASH_REMATCH[2]} ∷ []" ;;
+    *mode*) [[ $mark =~ ([0-9]+) ]] && marks="mode ≔ ${BASH_REMATCH[1]} ∷ []" ;;
     *) IFS=, read -r _ _ _ m p c e o f <<< "${mark//[\` ]/}" && marks="line $m $p $c $e $o $f" ;;
   esac
   wiring=wired
@@ -51,7 +51,6 @@ while IFS='|' read -r _ words settings mark _; do
   list=${words//,/ ∷}
   echo "sheet $wiring (${list# }∷ []) ($marks)" >> "$work/table"
   case $mark in
-    *output*) got=" output $(cut -d, -f8 <<< "$row") " ;;
     *mode*) got=" mode $(cut -d, -f4 <<< "$row") " ;;
     *) got=" \`$row\` " ;;
   esac
@@ -62,6 +61,12 @@ sed -n '/^given_sheets =/,/^ *∷ \[\]$/p' crates/rules/specs/Sheets.antt | grep
 diff "$work/table" "$work/given" || wrong "docs/RULES.md (<) has other sheets than given_sheets (>)"
 [ "$sheets" -ge 15 ] || wrong "docs/RULES.md: only $sheets sheets were read"
 echo "ok: $sheets sheets in docs/RULES.md"
+# how many of our own there are, so that none is lost unseen
+own=$(grep -cE '^ *(∷ )?(sheet|from|timed) [(w]' crates/rules/specs/OwnSheets.antt) || true
+cases=$(grep -cE '^ *(∷ )?(one|table|part|map) .* gives' crates/rules/specs/Cases.antt) || true
+tr '\n' ' ' < docs/RULES.md > "$work/rules"
+grep -qF " $own sheets of our own" "$work/rules" || wrong "docs/RULES.md gives another number of own sheets than $own"
+grep -qF " $cases scans, at each limit" "$work/rules" || wrong "docs/RULES.md gives another number of cases than $cases"
 
 # files that the pages name, with a folder or without; crates and sheets, each of which has a place
 pages="README.md docs/*.md sheets/README.md"

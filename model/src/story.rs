@@ -113,7 +113,7 @@ fn settings(dice: &mut Dice) -> [u32; 4] {
 }
 
 /// The bits of the commands that displace this one, weakest first.
-fn stronger_other_way(command: u32) -> &'static [u32] {
+fn displacers(command: u32) -> &'static [u32] {
     match command {
         7 => &[bit::KO_OFF, bit::MU_OFF, bit::LZ_OFF, bit::SMA],
         6 => &[bit::MU_ON, bit::LZ_ON, bit::SMA],
@@ -127,9 +127,9 @@ fn stronger_other_way(command: u32) -> &'static [u32] {
 
 /// A command bit worth raising in this state.
 fn command_bit(dice: &mut Dice, record: &Record, word: u32) -> u32 {
-    let stronger_other_way = stronger_other_way(record.command);
-    if !stronger_other_way.is_empty() && dice.percent(60) {
-        return dice.pick(stronger_other_way);
+    let displacers = displacers(record.command);
+    if !displacers.is_empty() && dice.percent(60) {
+        return dice.pick(displacers);
     }
     let all = [bit::SMA, bit::MU_ON, bit::MU_OFF, bit::LZ_ON, bit::LZ_OFF, bit::KO_ON, bit::KO_OFF];
     let local = [bit::MU_ON, bit::MU_OFF];
@@ -872,7 +872,7 @@ fn no_answer(dice: &mut Dice, record: &Record) -> u32 {
 /// confirmed, and the weakest of those that displace it rises.
 fn chain_word(dice: &mut Dice, record: &Record) -> u32 {
     let no_answer = no_answer(dice, record);
-    let (switches, command) = match stronger_other_way(record.command) {
+    let (switches, command) = match displacers(record.command) {
         [] if record.command == 0 => {
             let on = (bit::OFF, bit::KO_ON);
             dice.pick(&[on, on, (bit::ON, bit::KO_OFF), (bit::OFF, bit::MU_ON)])

@@ -15,7 +15,7 @@ pub struct Tally {
     pub whole: u64,
     /// Refused after the scan of a motor, which has its totals by then.
     pub cut_short: u64,
-    /// Near the greatest length; of these only refusals are counted.
+    /// Near the greatest length; of their lines only refusals are counted.
     pub long: u64,
     /// One byte below the greatest length, of just that, and one above: all of them,
     /// those without refusal, and of these the ones with commands.

@@ -11,8 +11,8 @@ use std::alloc::Global;
 use std::io;
 use std::io::{Read, Write};
 
-// The print of what stands in a reader. It is one call, and stands here because its clause names this program's own print.
-#[tactic(auto, using(print::proofs::Sheet::given_right, print::proofs::Sheet::own_right))]
+// The print of what stands in a reader. It is one call, and stands here because its clauses name this program's own print.
+#[tactic(auto, using(print::proofs::Sheets::given_right, print::proofs::Sheets::own_right))]
 fn run<R: Read + Drop, W: Write>(alloc: Global, from: R, to: &mut W) -> io::Result<()>
     ensures print { OnOk result (IfSome (R.remaining from) (λ file. Appends (W.contents to.old) (W.contents to.new) (print_of file))) }
     ensures given_prints { AreRight given_prints }

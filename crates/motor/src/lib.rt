@@ -112,7 +112,7 @@ pub fn accept(m: Motor, word: u32, period: u32) -> Result<(), Refusal>
     }
 }
 
-// One scan: the record after the ten steps, or a refusal. The rules that it keeps are those of the sheets.
+// One scan: the record after the ten steps, or a refusal. The sheets are computed from the same definitions.
 #[tactic(auto, using(rules::proofs::Tables::one_accepted, rules::proofs::Tables::one_refused, rules::proofs::Range::one_in_limits, rules::proofs::Range::sums_fit, rules::proofs::Sheets::given_right, rules::proofs::Sheets::own_right))]
 pub fn scan(m: Motor, word: u32, period: u32) -> Result<Motor, Refusal>
     ensures code { code_of result ≡ one_refusal m word period }

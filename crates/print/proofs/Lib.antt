@@ -2,7 +2,7 @@ pub mod PrintLaws
 pub mod Histories
 pub mod AdvanceLaws
 pub mod ScanLaws
-pub mod Sheet
+pub mod Sheets
 pub mod Pieces
 pub mod Beginning
 pub mod Shape

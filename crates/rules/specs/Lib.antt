@@ -6,4 +6,4 @@ pub mod Resting
 pub mod Opened
 pub mod Sheets
 pub mod OwnSheets
-pub mod Refused
+pub mod Cases

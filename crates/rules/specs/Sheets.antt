@@ -1,14 +1,14 @@
 -- Sheets with their marks, computed from the definitions: those of docs/RULES.md. Ours are in OwnSheets.antt. `motor::scan` ensures both
 -- (AreRight), so the rules cannot part from them.
-use Rattle.std.specs.Prelude.{ℕ, ◌≡◌, Bool, true, ◌&&◌, List, [], ◌∷◌, eqb}
-use Rattle.std.specs.List.{list_all}
+use Rattle.std.specs.Prelude.{ℕ, ◌≡◌, Bool, true, ◌&&◌, List, [], ◌∷◌, map, eqb}
+use Rattle.words.specs.Word.{when◌then◌else◌}
 use Rattle.rules.specs.declared.Settings.{Settings}
 use Rattle.rules.specs.declared.Motor.{Motor}
 use Rattle.rules.specs.Record.{fresh}
 use Rattle.rules.specs.Refusals.{one_refusal, one_after}
 use Rattle.rules.specs.Scans.{Input, scans}
 
--- a field of the record, and the mark that it must have
+-- a field of the record
 pub data Field : Type 0 where
   mode : Field
   sure : Field
@@ -33,6 +33,7 @@ value_of pulse m = m.output.sum
 value_of flags m = m.status.flags
 value_of previous m = m.status.previous
 
+-- a field and the value that it must have
 infix 90 ◌≔◌
 pub data Mark : Type 0 where
   ◌≔◌ : Field → ℕ → Mark
@@ -62,19 +63,30 @@ wired = wiring 193 0 500 300
 unfoldable pub line : ℕ → ℕ → ℕ → ℕ → ℕ → ℕ → List Mark
 line m p c e o f = mode ≔ m ∷ position ≔ p ∷ command ≔ c ∷ end ≔ e ∷ output ≔ o ∷ flags ≔ f ∷ []
 
--- every scan of a sheet is accepted, and every mark is right
+-- A lent record of a motor in Work that stands Off: command under way, its time sum, output, its pulse sum, and flags
+unfoldable pub lent : ℕ → ℕ → ℕ → ℕ → ℕ → Motor
+lent c time o run n =
+    record {
+      settings = wired;
+      status = record { mode = 2; sure = 1; position = 1; command = c; end = 0; flags = n; previous = 32 };
+      sum = time;
+      output = record { state = o; sum = run };
+    }
+
 unfoldable pub all_accepted : Motor → List Input → Bool
 all_accepted m [] = true
 all_accepted m (i ∷ is) = eqb (one_refusal m i.word i.period) 0 && all_accepted (one_after m i.word i.period) is
 
-unfoldable pub is_marked : Motor → Mark → Bool
-is_marked m (f ≔ n) = eqb (value_of f m) n
+-- a mark as the record has it
+unfoldable pub read : Motor → Mark → Mark
+read m (f ≔ n) = f ≔ value_of f m
 
-unfoldable pub is_right : Sheet → Bool
-is_right t = all_accepted t.start t.inputs && list_all (is_marked (scans t.start t.inputs)) t.marks
+-- the marks that the rules give, and none where a scan is refused
+unfoldable pub found : Sheet → List Mark
+found t = when all_accepted t.start t.inputs then map (read (scans t.start t.inputs)) t.marks else []
 
 abbrev pub AreRight : List Sheet → Type 0
-AreRight ts = list_all is_right ts ≡ true
+AreRight ts = map found ts ≡ map (λ (t : Sheet). t.marks) ts
 
 -- The sheets of docs/RULES.md, in its order
 unfoldable pub given_sheets : List Sheet

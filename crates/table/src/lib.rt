@@ -6,7 +6,7 @@ ghost use Rattle.std.specs.Prelude.{◌≡◌};
 ghost use Rattle.std.specs.List.{list_all};
 ghost use Rattle.std.specs.Result.{result_unwrap_or};
 ghost use Rattle.refusals.specs.Numbers.{code_of};
-ghost use Rattle.rules.specs.Refused.{AreGiven, cases};
+ghost use Rattle.rules.specs.Cases.{AreRight, cases};
 ghost use Rattle.rules.specs.Refusals.{misfit, in_range, word_ok, one_refusal, one_after, table_refusal, step_all, table_after, part_refusal, part_after};
 
 use refusals::Refusal;
@@ -74,11 +74,11 @@ fn step_all(table: &mut [Motor], words: &[u32], period: u32)
 }
 
 // A table of motors through a scan, each with its word: every record stepped, or none written where the scan is refused.
-#[tactic(auto, using(rules::proofs::Tables::table_accepted, rules::proofs::Tables::table_refused, rules::proofs::Sheets::cases_given))]
+#[tactic(auto, using(rules::proofs::Tables::table_accepted, rules::proofs::Tables::table_refused, rules::proofs::Sheets::cases_right))]
 pub fn scan(table: &mut [Motor], words: &[u32], period: u32) -> Result<(), Refusal>
     ensures code { code_of result ≡ table_refusal table.old words.now period }
     ensures table { table.new ≡ table_after table.old words.now period }
-    ensures cases { AreGiven cases }
+    ensures cases { AreRight cases }
 {
     accept(table, words, period)?;
     step_all(table, words, period);

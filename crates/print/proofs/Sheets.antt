@@ -11,14 +11,14 @@ use Rattle.report.specs.Opened.{opened as report-opened}
 use Rattle.interpreter.specs.Opened.{opened as interpreter-opened}
 use Rattle.print.specs.DecimalWords.{decimal_print, no0x_read, decimal_accepted}
 use Rattle.print.specs.Opened.{opened}
-use Rattle.print.specs.Sheets.{text, sheet, AreRight, given_prints, full, own_prints}
+use Rattle.print.specs.Sheets.{text, sheet, AreRight, given_prints, full, full_rows, own_prints}
 
 pub given_right : AreRight given_prints
 unfolding opened interpreter-opened rules-opened totals-opened sheet-opened report-opened text sheet given_prints
 given_right = refl
 
 pub own_right : AreRight own_prints
-unfolding opened interpreter-opened rules-opened totals-opened sheet-opened report-opened text sheet full own_prints
+unfolding opened interpreter-opened rules-opened totals-opened sheet-opened report-opened text sheet full full_rows own_prints
 own_right = refl
 
 -- the first file in hexadecimal, whose first line reading with numbers alone refused

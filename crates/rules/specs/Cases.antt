@@ -1,12 +1,11 @@
 -- Scans with their number, 0 where they are accepted, and with the previous words of the records that they leave: each limit on both sides,
--- the order of refusals, and that a refused scan leaves all as it was. `table::scan` ensures them (AreGiven).
+-- and the order of refusals. `table::scan` ensures them (AreRight). That a refused scan leaves all as it was is a law (proofs/Tables.antt).
 use Rattle.std.specs.Prelude.{ℕ, ◌≡◌, List, [], ◌∷◌, ◌++◌, map, replicate}
 use Rattle.rules.specs.declared.Motor.{Motor}
 use Rattle.rules.specs.declared.Status.{Status}
 use Rattle.rules.specs.Record.{fresh}
 use Rattle.rules.specs.Refusals.{one_refusal, one_after, table_refusal, table_after, part_refusal, part_after}
-use Rattle.rules.specs.Sheets.{sum, previous, value_of, wiring, wired}
-use Rattle.rules.specs.OwnSheets.{lent}
+use Rattle.rules.specs.Sheets.{sum, previous, value_of, wiring, wired, lent}
 
 -- what comes of a scan: its number, and then the previous words
 unfoldable pub one : Motor → ℕ → ℕ → List ℕ
@@ -18,18 +17,19 @@ table ms words period = table_refusal ms words period ∷ map (value_of previous
 unfoldable pub part : List Motor → ℕ → List ℕ → ℕ → List ℕ
 part ms count words period = part_refusal ms count words period ∷ map (value_of previous) (part_after ms count words period)
 
+-- what comes of a scan, and what it has to be
 infix 90 ◌gives◌
 pub data Case : Type 0 where
   ◌gives◌ : List ℕ → List ℕ → Case
 
-unfoldable pub asked : Case → List ℕ
-asked (found gives stated) = found
+unfoldable pub found : Case → List ℕ
+found (number gives stated) = number
 
-unfoldable pub answer : Case → List ℕ
-answer (found gives stated) = stated
+unfoldable pub stated : Case → List ℕ
+stated (number gives ns) = ns
 
-abbrev pub AreGiven : List Case → Type 0
-AreGiven cs = map asked cs ≡ map answer cs
+abbrev pub AreRight : List Case → Type 0
+AreRight cs = map found cs ≡ map stated cs
 
 -- every field at its limit, but for the previous word
 unfoldable pub most_status : Status
@@ -75,6 +75,7 @@ cases =
     ∷ table (fresh wired ∷ []) (131071 ∷ []) 10000 gives (0 ∷ 131071 ∷ [])
     ∷ table (replicate 32 (fresh wired)) (replicate 32 32) 100 gives (0 ∷ replicate 32 32)
     ∷ table (replicate 33 (fresh wired)) (replicate 33 32) 100 gives (1 ∷ replicate 33 0)
+    ∷ table (replicate 33 (fresh (wiring 65536 0 0 0))) (replicate 33 131072) 0 gives (1 ∷ replicate 33 0)
     ∷ table (fresh wired ∷ most ∷ []) (32 ∷ 16 ∷ []) 100 gives (0 ∷ 32 ∷ 16 ∷ [])
     ∷ map (value_of sum) (table_after (lent 7 50 0 0 0 ∷ lent 6 7 0 0 0 ∷ []) (32 ∷ 48 ∷ []) 100) gives (150 ∷ 107 ∷ [])
     -- as many words as records; 1 before 6 before 2 before 3, of whichever motor
@@ -87,6 +88,8 @@ cases =
     ∷ table (fresh wired ∷ fresh wired ∷ []) (131072 ∷ 32 ∷ []) 100 gives (3 ∷ 0 ∷ 0 ∷ [])
     -- part of an array: a count that no table has; the motors past the count stay, whatever they and their words are
     ∷ part (fresh wired ∷ []) 33 (32 ∷ []) 100 gives (1 ∷ 0 ∷ [])
+    ∷ part (fresh (wiring 65536 0 0 0) ∷ []) 33 (131072 ∷ []) 0 gives (1 ∷ 0 ∷ [])
+    ∷ part (fresh (wiring 65536 0 0 0) ∷ []) 0 (131072 ∷ []) 100 gives (0 ∷ 0 ∷ [])
     ∷ part (replicate 33 (fresh wired)) 32 (replicate 33 32) 100 gives (0 ∷ (replicate 32 32 ++ (0 ∷ [])))
     ∷ part (fresh wired ∷ fresh (wiring 65536 0 0 0) ∷ []) 1 (32 ∷ 131072 ∷ []) 100 gives (0 ∷ 32 ∷ 0 ∷ [])
     ∷ part (fresh wired ∷ fresh wired ∷ []) 2 (32 ∷ 131072 ∷ []) 100 gives (3 ∷ 0 ∷ 0 ∷ [])
