@@ -11,15 +11,23 @@ use octets::{COMMA, LF};
 // The longest row: R, eight fields of a comma and ten digits, LF.
 const LONGEST: usize = 90;
 
+// Whether each of the five states has one digit.
+#[tactic(auto, unfolding(crate::specs::Store::short_states))]
+pub fn has_short_states(row: Row) -> bool
+    ensures { result ≡ short_states row }
+{
+    (row.mode < 10) & (row.position < 10) & (row.command < 10) & (row.end < 10) & (row.output < 10)
+}
+
 impl<'a> Page<'a> {
     // R,scan,number,mode,position,command,end,output,flags
     #[tactic(auto, using(crate::proofs::PageLaws::all_short), unfolding(crate::specs::Print::row_of))]
     pub fn row(&mut self, row: Row)
         ensures { Puts self.old (row_of row) self.new }
     {
-        // nearly all rows go this way; the states have one digit each if all their bits together are below ten
+        // nearly all rows go this way; the states have one digit each if all their bits together are below ten, and of others each is asked
         let states = row.mode | row.position | row.command | row.end | row.output;
-        if self.room() >= LONGEST && states < 10 {
+        if self.room() >= LONGEST && (states < 10 || has_short_states(row)) {
             return self.store_row(row);
         }
         let numbers = [
