@@ -4,6 +4,7 @@ use Rattle.rules.specs.declared.Motor.{Motor}
 use Rattle.rules.specs.Refusals.{one_refusal, one_after, table_refusal, step_all}
 use Rattle.refusals.proofs.Numbers.{is_ok-from_zero}
 use Rattle.rules.proofs.Tables.{accepted, each_accepted, none_stepped, not_yet, one_more, one_accepted}
+use Rattle.table.proofs.Few.{words_enough}
 use Rattle.table.proofs.step_all.Goals as goal
 
 module _ (ms : List Motor) (ws : List ℕ) (p : ℕ) (ok : table_refusal ms ws p ≡ 0) (i : ℕ) (d : Motor) (l : i < length ms) where
@@ -18,16 +19,16 @@ pub loop-i-init : goal.loop-i-init
 loop-i-init c = sym (none_stepped _ _)
 
 pub bounds-words-i : goal.bounds-words-i
-bounds-words-i c = rw (accepted _ _ _ c.requires).lengths at c.loop-i-test.true
+bounds-words-i c = omega (arith, c.loop-i-test.true, words_enough _ _ _ c.requires)
 
 pub unwrap-requires : goal.unwrap-requires
 unwrap-requires c =
-    is_ok-from_zero _ (c.scan.ensures.code ∙ rw c.loop-i.invariant (accepted_at _ _ _ c.requires _ _ c.loop-i-test.true))
+    is_ok-from_zero _ (c.scan.ensures.code ∙ rw c.loop-i.invariant (accepted_at _ _ _ c.requires _ _ (omega (arith, c.loop-i-test.true))))
 
 pub loop-i-preserved : goal.loop-i-preserved
 loop-i-preserved c =
     rw (rw c.unwrap.ensures at c.scan.ensures.motor, c.loop-i.invariant)
-    (stepped_at c.args.table.now c.args.words.now c.args.period c.requires c.loop-i.i _ c.loop-i-test.true)
+    (stepped_at c.args.table.now c.args.words.now c.args.period c.requires c.loop-i.i _ (omega (arith, c.loop-i-test.true)))
 
 pub returns : goal.returns
 returns c =
