@@ -37,7 +37,7 @@ fn main() {
     // a displaced one
     let m = after_three(32, 4128, 416, 100);
     check::expect((m.status.end == 2) & (m.status.command == 2) & (m.output.state == 2));
-    // a refused scan: the record stays as it was
+    // a refused scan: no record comes with it, and the caller has its own still
     let m = after_three(32, 4128, 131072, 100);
     check::expect((m.status.command == 7) & (accept(m, 131072, 10000) == Err(Refusal::Word)));
     // the order of the refusals

@@ -1,5 +1,5 @@
-// Runs tables of motors through the open functions: a full one, part of one, none, one too many, and each refusal. That each check holds is
-// proved, by computing it: `expect` asks for it.
+// Runs tables of motors through the open functions: by value a full one, part of one, none, one too many, and each refusal; lent ones that are
+// refused, which stay as they were, and one that is accepted. That each check holds is proved, by computing it: `expect` asks for it.
 #![tactic(auto)]
 
 ghost use Rattle.std.specs.Prelude.{◌≡◌, true, replicate, eqb};
@@ -12,7 +12,19 @@ use refusals::Refusal;
 use rules::{Motor, Settings};
 use table::MOST_MOTORS;
 
-// The first `count` of 32 motors with the settings of the sheets in docs/RULES.md but for OPS_1, fresh, through one scan.
+// A fresh motor with the settings of the sheets in docs/RULES.md but for OPS_1.
+fn fresh(ops1: u32) -> Motor
+    ensures { result ≡ fresh (record { ops1 = ops1; ops2 = 0; w = 500; u = 300 }) }
+{
+    motor::fresh(Settings {
+        ops1,
+        ops2: 0,
+        w: 500,
+        u: 300,
+    })
+}
+
+// The first `count` of 32 such motors through one scan.
 fn scan_fresh(
     ops1: u32,
     count: usize,
@@ -22,14 +34,8 @@ fn scan_fresh(
     ensures code { code_of result ≡ part_refusal (replicate 32 (fresh (record { ops1 = ops1; ops2 = 0; w = 500; u = 300 }))) count (replicate 32 word) period }
     ensures records { result_unwrap_or result (replicate 32 (fresh (record { ops1 = ops1; ops2 = 0; w = 500; u = 300 }))) ≡ part_after (replicate 32 (fresh (record { ops1 = ops1; ops2 = 0; w = 500; u = 300 }))) count (replicate 32 word) period }
 {
-    let s = Settings {
-        ops1,
-        ops2: 0,
-        w: 500,
-        u: 300,
-    };
     table::scan_array(
-        [motor::fresh(s); MOST_MOTORS],
+        [fresh(ops1); MOST_MOTORS],
         count,
         [word; MOST_MOTORS],
         period,
@@ -87,4 +93,19 @@ fn main() {
     check::expect(is_refused(65536, 2, 131072, 0, Refusal::Record));
     check::expect(is_refused(193, 2, 131072, 0, Refusal::Period));
     check::expect(is_refused(193, 2, 131072, 100, Refusal::Word));
+    // lent tables: the first motor of one that is refused stays as it was
+    let mut table = [fresh(65536); 33];
+    check::expect(table::scan(&mut table, &[131072; 33], 0) == Err(Refusal::Size));
+    check::expect(table[0].status.previous == 0);
+    let mut table = [fresh(65536); 2];
+    check::expect(table::scan(&mut table, &[131072; 2], 0) == Err(Refusal::Record));
+    check::expect(table[0].status.previous == 0);
+    let mut table = [fresh(193); 2];
+    check::expect(table::scan(&mut table, &[131072; 2], 0) == Err(Refusal::Period));
+    check::expect(table[0].status.previous == 0);
+    check::expect(table::scan(&mut table, &[131072; 2], 100) == Err(Refusal::Word));
+    check::expect(table[0].status.previous == 0);
+    // and the last of one that is accepted is scanned
+    check::expect(table::scan(&mut table, &[4128; 2], 100) == Ok(()));
+    check::expect(table[1].status.command == 7);
 }
