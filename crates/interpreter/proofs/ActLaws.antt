@@ -77,7 +77,7 @@ module _ {A : Type 0} (n : ℕ) (l : List A) (is : length l ≡ 32) where
   in_use_again new e f = grind (arith, common_steps)
 
   -- one after them
-  one_more : (x : A) → min n most_motors < most_motors → take (min n most_motors + 1) (set l (min n most_motors) x) ≡ take n l ++ (x ∷ [])
+  pub one_more : (x : A) → min n most_motors < most_motors → take (min n most_motors + 1) (set l (min n most_motors) x) ≡ take n l ++ (x ∷ [])
   unfolding most_motors
   one_more x h = grind (arith, common_steps)
 
