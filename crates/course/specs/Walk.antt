@@ -57,6 +57,10 @@ module _ {C : Type 0} (w : Walk C) where
       pub short : length piece ≤ w.most_put
       pub further : place c < place d
 
+    -- From within the file, where no accepted scan stands, that line or the end. Of any other place nothing is said.
+    abbrev pub Line : Type 0
+    Line = place c ≤ length file → NoScan file c → Advance
+
     -- Lines, and maybe the end: what they print is put, and found room.
     pub record Run : Type 0 where
       pub piece : List ℕ

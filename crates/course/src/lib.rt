@@ -4,9 +4,9 @@
 // The file and a page go side by side: the file lasts for the walk, and a page for one buffer.
 #![tactic(auto)]
 
-ghost use Rattle.std.specs.Prelude.{ℕ, ◌≤◌, ◌≡◌, length, IfSome, OnOk};
+ghost use Rattle.std.specs.Prelude.{ℕ, ◌≡◌, IfSome, OnOk};
 ghost use Rattle.std.specs.Io.KnownBytes.{Appends};
-ghost use Rattle.course.specs.Walk.{Walk, Laws, place, NoScan, Begin, Advance, Scans, Fill};
+ghost use Rattle.course.specs.Walk.{Walk, Laws, place, Begin, Line, Scans, Fill};
 
 #[cfg(test)]
 mod tests;
@@ -40,12 +40,10 @@ pub trait Course: Copy {
     fn scans(&mut self, file: &[u8], page: &mut Page)
         ensures { Scans walk file.now self.old page.old self.new page.new };
 
-    // The next line, which is no accepted scan, or the file's end. `fill` alone calls it, after `scans`. That it reads the line's request
-    // is all that the programs' lines have alike.
+    // The next line, or the file's end, where no accepted scan stands. `fill` alone calls it, after `scans`. That it reads the line's
+    // request is all that the programs' lines have alike.
     fn line(&mut self, file: &[u8], page: &mut Page)
-        requires here { place walk self.old ≤ length file.now }
-        requires no_scan { NoScan walk file.now self.old }
-        ensures { Advance walk file.now self.old page.old self.new page.new };
+        ensures { Line walk file.now self.old page.old self.new page.new };
 
     ghost most_put: { MOST_PUT ≡ walk.most_put };
 
