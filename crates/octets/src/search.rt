@@ -32,6 +32,7 @@ fn has_lf(w: u64) -> bool
 }
 
 /// The first LF at or after a place. Words are passed over up to one that has an LF, and what follows is searched by bytes.
+#[tactic(auto, using(crate::proofs::SearchLaws::found_on))]
 pub fn find_lf(file: &[u8], at: usize) -> Option<usize>
     ensures { result ≡ found_lf file.now at }
 {

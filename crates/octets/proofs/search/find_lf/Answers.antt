@@ -1,7 +1,6 @@
 use mathlib.Core.Path.{refl, sym, ◌∙◌}
 use native.Mathlib.Omega.{arith}
 use Rattle.octets.specs.Split.{LF}
-use Rattle.octets.proofs.SearchLaws.{found_on}
 use Rattle.octets.proofs.WordLaws.{index_skip}
 use Rattle.octets.proofs.search.find_lf.Goals as goal
 
@@ -22,9 +21,6 @@ loop-i-preserved c =
     let t = c.loop-i-test.true in
     let none = rw c.word_at.ensures at (sym c.has_lf.ensures ∙ c.if-has_lf.false) in
     omega (arith, l.invariant, index_skip LF s l.i 8 (omega arith) none)
-
-pub returns : goal.returns
-returns c = c.index_from.ensures ∙ found_on c.args.file.now c.args.at LF c.loop-i.i c.loop-i.invariant
 
 pub loop-i-init : goal.loop-i-init
 loop-i-init c = refl
