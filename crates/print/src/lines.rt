@@ -81,6 +81,7 @@ impl Course for Sitting {
     }
 
     // A refused line is the last.
+    #[tactic(auto, using(crate::proofs::AdvanceLaws::stops, interpreter::proofs::ActLaws::not_zero))]
     fn line(&mut self, file: &[u8], page: &mut Page) {
         let Some((request, next)) = next_request(file, self.at) else {
             put_end(self.bench, page);

@@ -1,17 +1,11 @@
 use Rattle.std.proofs.Common.{◌≡◌, length, sym, ◌∙◌, arith}
-use Rattle.interpreter.proofs.ActLaws.{not_zero}
-use Rattle.print.proofs.AdvanceLaws.{at_end_lem, goes_on_quietly, stops}
+use Rattle.print.proofs.AdvanceLaws.{at_end_lem, goes_on_quietly}
 use Rattle.print.proofs.lines.SittingCourse.line.Goals as goal
 
 pub returns-in-Ok : goal.returns-in-Ok
 returns-in-Ok c here no_scan =
     rw c.next_number-self.ensures
     (goes_on_quietly (sym c.next_request.ensures ∙ c.in-Some.is) no_scan c.act.new.self c.in-Ok.ensures.state (sym c.in-Ok.ensures.refusal))
-
-pub returns-in-Err : goal.returns-in-Err
-returns-in-Err c here no_scan =
-    rw c.in-Err.ensures.unchanged
-    (stops (sym c.next_request.ensures ∙ c.in-Some.is) (c.from.ensures ∙ c.in-Err.ensures.refusal) (not_zero _ c.in-Err.ensures.refusal) c.refusal.ensures)
 
 pub returns-in_default : goal.returns-in_default
 returns-in_default c here no_scan =
